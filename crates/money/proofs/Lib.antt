@@ -1,0 +1,5 @@
+pub mod Bounds
+pub mod Codes
+pub mod HalfUp
+pub mod Lossless
+pub mod Names
