@@ -13,6 +13,7 @@ use Rattle.money.specs.declared.currency.Currency.the-variants.{Euro, National
 use Rattle.money.specs.declared.quantity.Minor.{Minor}
 use Rattle.money.specs.declared.quantity.Mills.{Mills}
 use Rattle.money.specs.declared.quantity.Parts.{Parts}
+use Rattle.money.specs.declared.rounding.Rounded.{Rounded}
 use Rattle.money.specs.declared.conversion.Route.{Route}
 use Rattle.money.specs.declared.conversion.Route.the-variants.{IntoEuro, FromEuro, Between}
 use Rattle.money.specs.declared.conversion.Conversion.{Conversion}
@@ -24,6 +25,10 @@ use Rattle.money.specs.Table.{table, rate, parts}
 abbrev pub mostAmount : ℕ
 mostAmount = 99_999_999_999
 
+-- no amount comes to more mills, in any currency
+abbrev pub mostMills : ℕ
+mostMills = 7_267_300_000_000
+
 -- a count of minor units, of mills, and the parts that rounding x parts to whole units of d parts leaves
 abbrev pub minors : ℕ → Minor
 minors n = record { 0 = pos n }
@@ -33,6 +38,10 @@ thousandths n = record { 0 = n }
 
 abbrev pub leftover : ℕ → ℕ → Parts
 leftover x d = record { 0 = residueOf x d }
+
+-- x parts as whole units of d parts each, and the parts left
+abbrev pub roundedTo : ℕ → ℕ → Rounded
+roundedTo x d = record { whole = halfUp x d; residue = leftover x d }
 
 -- M: an amount of currency i in parts of its euro fraction column, 10 × R to a cent
 abbrev pub exactFrom : National → ℕ → ℕ

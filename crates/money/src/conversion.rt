@@ -1,11 +1,12 @@
 //! Conversions between the currencies, through the euro, with what rounding leaves.
 ghost use mathlib.Core.Path.{_≡_};
-ghost use Prim.Native.Nat.{_≤_};
+ghost use Prim.Native.Nat.{_*_, _^_, _<_, _≤_};
 ghost use lib.IntN.{natAbs};
 ghost use Rattle.std.specs.Vec.{made};
 ghost use Rattle.register.specs.Register.{bookAnswer};
-ghost use Rattle.money.specs.Conversions.{exchanged, booked, converted, converting, routeOf, mostAmount};
+ghost use Rattle.money.specs.Conversions.{exactFrom, exactInto, exchanged, booked, converted, converting, routeOf, mostAmount, mostMills, roundedTo};
 ghost use Rattle.money.specs.Laws.{Joins, Lossless, LosslessBetween};
+ghost use Rattle.money.specs.Table.{rate, parts};
 use crate::currency::Currency;
 use crate::currency::National;
 use crate::currency::NationalPartialEq;
@@ -112,22 +113,22 @@ impl Route {
     {
         match self {
             Route::IntoEuro(from) => {
-                let cents = Rounded::nearest(amount * from.parts(), 10 * from.rate());
+                let cents = cents_from(from, amount);
                 Conversion::IntoEuro {
                     booked: Minor(cents.whole as i64),
                     euro: cents.residue,
                 }
             }
             Route::FromEuro(to) => {
-                let units = Rounded::nearest(10 * amount * to.rate(), to.parts());
+                let units = units_into(to, 10 * amount);
                 Conversion::FromEuro {
                     booked: Minor(units.whole as i64),
                     national: units.residue,
                 }
             }
             Route::Between(from, to) => {
-                let mills = Rounded::nearest(amount * from.parts(), from.rate());
-                let units = Rounded::nearest(mills.whole * to.rate(), to.parts());
+                let mills = mills_from(from, amount);
+                let units = units_into(to, mills.whole);
                 Conversion::Between {
                     mills: Mills(mills.whole),
                     euro: mills.residue,
@@ -137,6 +138,33 @@ impl Route {
             }
         }
     }
+}
+
+/// The cents that an amount of a national currency comes to.
+fn cents_from(from: National, amount: u64) -> Rounded
+    requires { ⌜ amount ≤ mostAmount ⌝ }
+    ensures value { λ r. ⌜ r ≡ roundedTo (exactFrom from amount) (10 * rate from) ⌝ }
+    ensures small { λ r. ⌜ r .whole < 2 ^ 63 ⌝ }
+{
+    Rounded::nearest(amount * from.parts(), 10 * from.rate())
+}
+
+/// The mills that an amount of a national currency comes to on its way into another.
+fn mills_from(from: National, amount: u64) -> Rounded
+    requires { ⌜ amount ≤ mostAmount ⌝ }
+    ensures value { λ r. ⌜ r ≡ roundedTo (exactFrom from amount) (rate from) ⌝ }
+    ensures small { λ r. ⌜ r .whole ≤ mostMills ⌝ }
+{
+    Rounded::nearest(amount * from.parts(), from.rate())
+}
+
+/// The minor units of a national currency that mills come to.
+fn units_into(to: National, mills: u64) -> Rounded
+    requires { ⌜ mills ≤ mostMills ⌝ }
+    ensures value { λ r. ⌜ r ≡ roundedTo (exactInto to mills) (parts to) ⌝ }
+    ensures small { λ r. ⌜ r .whole < 2 ^ 63 ⌝ }
+{
+    Rounded::nearest(mills * to.rate(), to.parts())
 }
 
 /// Converts an amount between two currencies, or says why not.

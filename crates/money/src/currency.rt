@@ -1,6 +1,8 @@
 //! The currencies of the changeover, and the table of their fixed rates.
 ghost use mathlib.Core.Path.{_≡_};
+ghost use Rattle.std.specs.declared.option.Option.the-variants.{Some};
 ghost use Rattle.money.specs.Table.{rate, parts, numberOf, codeOf, numbered, coded};
+use std::fmt;
 
 /// A national currency that the euro replaced.
 #[derive(Clone, Copy, PartialEq, Eq)]
@@ -149,5 +151,16 @@ impl Currency {
             }
         }
         None
+    }
+}
+
+/// The currency's code.
+pub impl fmt::Display for Currency as CurrencyDisplay {
+    ghost shown = { λ c. Some (codeOf c) };
+
+    fn fmt<W: fmt::Write>(&self, f: &mut fmt::Formatter<W>) -> fmt::Result {
+        let [a, b, c] = self.code();
+        let (a, b, c) = (a as char, b as char, c as char);
+        write!(f, "{a}{b}{c}")
     }
 }

@@ -1,7 +1,8 @@
 //! Rounding to the nearest whole number.
 ghost use mathlib.Core.Path.{_≡_};
 ghost use Prim.Native.Nat.{ℕ, _+_, _^_, _<_};
-ghost use Rattle.money.specs.Rounding.{halfUp, residueOf};
+ghost use Rattle.money.specs.Rounding.{halfUp};
+ghost use Rattle.money.specs.Conversions.{roundedTo};
 use crate::quantity::Parts;
 
 /// Half-up of `x ÷ y`: the nearest whole number, the upper one at exactly half.
@@ -26,9 +27,8 @@ impl Rounded {
     pub(crate) fn nearest(exact: u64, unit: u64) -> Rounded
         requires some { ⌜ 0 < unit ⌝ }
         requires fits { ⌜ exact + unit < 2 ^ 63 ⌝ }
-        ensures whole { λ r. ⌜ r .whole ≡ halfUp exact unit ⌝ }
+        ensures value { λ r. ⌜ r ≡ roundedTo exact unit ⌝ }
         ensures small { λ r. ⌜ r .whole < 2 ^ 63 ⌝ }
-        ensures residue { λ r. ⌜ r .residue .0 ≡ residueOf exact unit ⌝ }
     {
         let whole = half_up(exact, unit);
         let residue = Parts(exact as i64 - (unit * whole) as i64);

@@ -27,8 +27,9 @@ pub returns : need.returns
 unfolding residueOf
 returns c =
     let r : Rounds (c .args .exact) (c .args .unit) (c .half-up-whole .result) = rounds-at _ _ _ (c .pre .some) (c .half-up-whole .ensures) in
+    let e : c .half-up-whole .result ≡ halfUp (c .args .exact) (c .args .unit) = c .half-up-whole .ensures in
+    let same : _ ≡ residueOf (c .args .exact) (c .args .unit) = omega (arith, ints, ap (λ n. c .args .unit * n) e) in
     record {
-      whole = c .half-up-whole .ensures;
+      value = λ i. record { whole = e i; residue = record { 0 = same i } };
       small = omega (arith, rounds-small _ _ _ (c .pre .some) r);
-      residue = omega (arith, ints, ap (λ n. c .args .unit * n) (c .half-up-whole .ensures));
     }
