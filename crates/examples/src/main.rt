@@ -1,12 +1,21 @@
 //! Worked examples: real vouchers of the changeover, taken through the engine and printed step by step.
+mod heirs;
 mod invoice;
+mod ledgers;
 mod reckoned;
 mod wording;
 
-use std::io;
+use std::error::AnyError;
 
-fn main(rt: LibcRuntime) -> io::Result<()> {
-    invoice::show(&rt)?;
-    reckoned::show_refused(&rt)?;
-    reckoned::show(&rt)
+fn run(rt: &LibcRuntime) -> Result<(), AnyError> {
+    invoice::show(rt)?;
+    heirs::show(rt)?;
+    ledgers::show(rt)?;
+    reckoned::show_refused(rt)?;
+    reckoned::show(rt)?;
+    Ok(())
+}
+
+fn main(rt: LibcRuntime) -> Result<(), AnyError> {
+    rt.report(run(&rt))
 }

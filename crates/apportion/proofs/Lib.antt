@@ -1,0 +1,11 @@
+pub mod Bounds
+pub mod Checks
+pub mod Counts
+pub mod Fairness
+pub mod Filled
+pub mod Order
+pub mod Passing
+pub mod Remainders
+pub mod Signed
+pub mod Sums
+pub mod Uniqueness

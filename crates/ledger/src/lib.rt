@@ -1,0 +1,31 @@
+//! Entries, and what every ledger means and does with them.
+mod balance;
+mod column;
+mod entry;
+mod laws;
+mod ledger;
+mod leg;
+mod limits;
+mod sums;
+mod verdict;
+
+pub use balance::MOST_ACCOUNT;
+pub use balance::MOST_COLUMN;
+pub use column::Column;
+pub use column::FractionColumn;
+pub use entry::Entry;
+pub use entry::MOST_LEGS;
+pub use laws::columns_are_numbered;
+pub use ledger::Balances;
+pub use ledger::Ledger;
+pub use ledger::enter;
+pub use leg::Leg;
+pub use limits::ACCOUNTS;
+pub use limits::COLUMNS;
+pub use limits::MOST_HELD;
+pub use limits::ceiling_of;
+pub use limits::floor_of;
+pub use limits::is_cell;
+pub use sums::column_sum;
+pub use sums::rise;
+pub use verdict::check;
