@@ -46,8 +46,22 @@ fn largest() -> [Leg; 16] {
     let debit = Leg::money(10, EUR, Minor(MOST_AMOUNT));
     let credit = Leg::money(20, EUR, Minor(-MOST_AMOUNT));
     [
-        debit, credit, debit, credit, debit, credit, debit, credit, debit, credit, debit, credit,
-        debit, credit, debit, credit,
+        debit,
+        credit,
+        debit,
+        credit,
+        debit,
+        credit,
+        debit,
+        credit,
+        debit,
+        credit,
+        debit,
+        credit,
+        debit,
+        credit,
+        debit,
+        credit,
     ]
 }
 
@@ -76,7 +90,11 @@ fn show_taking<L: Ledger>(rt: &LibcRuntime, ledger: &mut L, legs: &[Leg]) -> io:
     }
     for leg in legs {
         let (account, column) = (leg.account as u64, leg.column as u64);
-        println!(rt, "    cell {account} {column} {}", ledger.cell(account, column))?;
+        println!(
+            rt,
+            "    cell {account} {column} {}",
+            ledger.cell(account, column)
+        )?;
     }
     Ok(())
 }
@@ -95,7 +113,12 @@ fn fill<L: Ledger>(ledger: &mut L) -> u32 {
 
 /// Takes a conversion, fills two cells up to their limits, and is refused one leg more.
 fn show_ledger<L: Ledger>(rt: &LibcRuntime, ledger: &mut L) -> io::Result<()> {
-    println!(rt, "  ledger {}, room {}", ledger.kind_letter(), ledger.room())?;
+    println!(
+        rt,
+        "  ledger {}, room {}",
+        ledger.kind_letter(),
+        ledger.room()
+    )?;
     show_taking(rt, ledger, &conversion())?;
     let taken = fill(ledger);
     println!(rt, "    {taken} entries of the largest amounts")?;

@@ -1,0 +1,14 @@
+pub mod Accepted
+pub mod Carries
+pub mod Changes
+pub mod Converts
+pub mod Docket
+pub mod Examples
+pub mod Kept
+pub mod Legs
+pub mod Posts
+pub mod Runs
+pub mod Slips
+pub mod Splits
+pub mod Sums
+pub mod Sweeps

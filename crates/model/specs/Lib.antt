@@ -1,0 +1,9 @@
+pub mod Calls
+pub mod Conservation
+pub mod Docket
+pub mod Examples
+pub mod History
+pub mod Postings
+pub mod Results
+pub mod State
+pub mod Step
