@@ -1,0 +1,11 @@
+mod Answering
+mod Covering
+mod Cuts
+mod Filling
+mod Patterns
+mod Readings
+mod Refusing
+mod Rejoining
+mod Spelling
+mod Texts
+mod Written

@@ -1,0 +1,26 @@
+-- Assumes nothing.
+use mathlib.Core.Path.{_≡_}
+use mathlib.Core.Bool.{cond}
+use Prim.Native.Nat.{_+_, suc}
+use native.Mathlib.Omega.{arith}
+use lib.Dec.{eqb}
+use lib.ListN.{drop, getD}
+use Rattle.std.proofs.shelf.Lists.{at-drop-more, at-drop-all}
+use Rattle.std.proofs.shelf.Ways.{tells}
+use Rattle.reader.specs.Bytes.{before}
+use Rattle.reader.proofs.scan.count_before.Needs as need
+
+pub returns-then-b-stop : need.returns-then-b-stop
+returns-then-b-stop c =
+    let e = at-drop-more (before (c .args .stop)) (c .args .text .now) (c .loop-i .i) 0 (c .loop-i-test .taken) in
+    record { value = grind (arith, tells, e, c .loop-i .inv); within = omega arith }
+
+pub loop-i-again : need.loop-i-again
+loop-i-again c =
+    let e = at-drop-more (before (c .args .stop)) (c .args .text .now) (c .loop-i .i) 0 (c .loop-i-test .taken) in
+    grind (arith, tells, e, c .loop-i .inv)
+
+pub returns : need.returns
+returns c =
+    let e = at-drop-all (before (c .args .stop)) (c .args .text .now) (c .loop-i .i) (c .loop-i-test .left) in
+    record { value = grind (arith, tells, e, c .loop-i .inv); within = omega arith }

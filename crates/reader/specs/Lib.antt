@@ -1,0 +1,10 @@
+pub mod Bytes
+pub mod Examples
+pub mod Kinds
+pub mod Laws
+pub mod Limits
+pub mod Lines
+pub mod Numbers
+pub mod Requests
+pub mod Words
+pub mod Writing
