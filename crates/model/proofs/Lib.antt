@@ -3,6 +3,7 @@ pub mod Carries
 pub mod Changes
 pub mod Converts
 pub mod Docket
+pub mod EveryCall
 pub mod Examples
 pub mod Kept
 pub mod Legs

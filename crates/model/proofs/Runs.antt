@@ -44,7 +44,7 @@ ways-ledger : {A : Type 0} (s : State) (v : Movement A) (r : Result (Unit {0}) R
 ways-ledger s v (Ok x) P stay go = go
 ways-ledger s v (Err f) P stay go = stay f
 
-ways : {A : Type 0} (s : State) (r : Result (Movement A) Refusal) (P : Result A Refusal × State → Type 0)
+pub ways : {A : Type 0} (s : State) (r : Result (Movement A) Refusal) (P : Result A Refusal × State → Type 0)
     → ((f : Refusal) → P (Err f, s)) → ((v : Movement A) → r ≡ Ok v → P (Ok (v .answer), moved s v)) → P (performed s r)
 ways s (Ok v) P stay go = ways-ledger s v (ledgerVerdict (s .ledger) (v .legs)) P stay (go v refl)
 ways s (Err f) P stay go = stay f
@@ -83,7 +83,7 @@ exact-from o s h k (c ∷ cs) =
 
 -- ---- a book that opens fit
 
-all-below : (p : ℕ → Bool) (n : ℕ) → allBelow p n ≡ true → (k : ℕ) → k < n → p k ≡ true
+pub all-below : (p : ℕ → Bool) (n : ℕ) → allBelow p n ≡ true → (k : ℕ) → k < n → p k ≡ true
 unfolding allBelow
 all-below p zero e k h = absurd (omega arith)
 all-below p (suc n) e k h =

@@ -3,6 +3,7 @@ pub mod Conservation
 pub mod Docket
 pub mod Examples
 pub mod History
+pub mod Laws
 pub mod Postings
 pub mod Results
 pub mod State

@@ -3,7 +3,8 @@ use mathlib.Core.Bool.{cond}
 use mathlib.Core.List.{List, [], _∷_, _++_}
 use Prim.Native.Nat.{ℕ}
 use lib.IntN.{ℤ, pos, negℤ, _*ℤ_}
-use lib.Signed.{leZ, quotZ}
+use lib.Signed.{leZ}
+use lib.Signed.{quotZ}
 use Rattle.money.specs.declared.currency.Currency.{Currency}
 use Rattle.money.specs.declared.quantity.Minor.{Minor}
 use Rattle.money.specs.Table.{numberOf}

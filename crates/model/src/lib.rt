@@ -6,7 +6,11 @@ mod request;
 
 pub use audit::Audit;
 pub use laws::conservation;
+pub use laws::every_call;
+pub use laws::fit_if_clear;
 pub use laws::reckoned_examples;
+pub use laws::reckoned_refusals;
+pub use laws::reckoned_sweeps;
 pub use laws::worked_run;
 pub use record::Record;
 pub use record::Standing;

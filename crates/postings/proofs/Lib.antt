@@ -1,0 +1,6 @@
+mod Drawing
+mod Pairing
+mod Posting
+mod Splitting
+mod Sweeping
+pub mod Valid
