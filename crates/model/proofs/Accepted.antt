@@ -56,7 +56,7 @@ is-named a e =
     record { low = leb-true 2 a (p .0); high = omega arith }
 
 pub account-named : (a place : ℕ) (x : Unit {0}) → accountAt a place ≡ Ok x → Named a
-account-named a place x e = is-named a (passed (named a) 4 place x e)
+account-named a place x e = is-named a (passed (named a) _ _ x e)
 
 -- the number names the currency
 pub record Names (n : ℕ) (c : Currency) : Type 0 where
@@ -65,5 +65,5 @@ pub record Names (n : ℕ) (c : Currency) : Type 0 where
 
 pub currency-named : (n place : ℕ) (c : Currency) → currencyAt n place ≡ Ok c → Names n c
 currency-named n place c e =
-    let f : numbered n ≡ Some c = found-there (numbered n) 2 place c e in
+    let f : numbered n ≡ Some c = found-there (numbered n) _ _ c e in
     record { number = names .numberIs n c f; currency = ap currencyIn f }

@@ -11,6 +11,7 @@ use lib.ListN.{length}
 use Rattle.std.specs.declared.option.Option.{Option}
 use Rattle.std.specs.declared.option.Option.the-variants.{Some, None}
 use Rattle.std.specs.declared.result.Result.the-variants.{Ok}
+use Rattle.std.proofs.shelf.Tests.{eqb-true}
 use Rattle.money.specs.declared.currency.Currency.{Currency}
 use Rattle.money.specs.declared.currency.Currency.the-variants.{Euro, National as Of}
 use Rattle.ledger.specs.Legs.{columnSum, rise}
@@ -19,7 +20,7 @@ use Rattle.model.specs.declared.record.Record.{Record}
 use Rattle.model.specs.declared.record.Standing.{Standing}
 use Rattle.model.specs.declared.record.Standing.the-variants.{Out, Parked}
 use Rattle.model.specs.Calls.{Question, cell, room, kind, fit, mark, given, records, audit, Answer, carry, park, takeUp, ask}
-use Rattle.model.specs.Conservation.{DueAnswer}
+use Rattle.model.specs.Conservation.{DueAnswer, Ours}
 use Rattle.model.specs.Docket.{isOut, found, euroFraction, nationalFraction, residuesOf}
 use Rattle.model.specs.History.{Event, Status, held, carried, status, Origin, origin, notCarried, residueLegs, originLegs}
 use Rattle.model.specs.Postings.{transfers, carryLegs}
@@ -27,8 +28,8 @@ use Rattle.model.specs.Results.{unless, present}
 use Rattle.model.specs.State.{State}
 use Rattle.model.specs.Step.{Movement, restates, strikes, still, fitness, accountAt, ifOut, slipRecord, carrying, parking, takingUp, asked}
 use Rattle.model.proofs.Accepted.{and-then, ok-same, passed, found-there, Named, account-named}
-use Rattle.model.proofs.Changes.{Turning}
-use Rattle.model.proofs.Docket.{recorded, Found, found-is}
+use Rattle.model.proofs.Changes.{Turning, held≢never, given-known}
+use Rattle.model.proofs.Docket.{recorded, is-there, Found, found-is}
 use Rattle.model.proofs.Kept.{Balanced, Sound, Kept}
 use Rattle.model.proofs.Legs.{origin-from, origin-column, origin-all, origin-past}
 use Rattle.model.proofs.Slips.{cond-same, cond-other}
@@ -36,15 +37,15 @@ use Rattle.model.proofs.Sums.{nothing-euro, nothing-national}
 
 -- ---- calls without legs
 
-due-answer : (o s : State) (h : List Event) (q : Question) → Kept o s h → DueAnswer (o .ledger .cell) h q (asked s q)
+due-answer : (o s : State) (h : List Event) (q : Question) → Kept o s h → DueAnswer o h q (asked s q)
 due-answer o s h (cell a k) x = x .cells a k
-due-answer o s h room x = tt
-due-answer o s h kind x = tt
+due-answer o s h room x = x .room
+due-answer o s h kind x = x .kind
 due-answer o s h fit x = x .fit
-due-answer o s h mark x = tt
+due-answer o s h mark x = x .mark
 due-answer o s h given x = x .count
 due-answer o s h records x = x .track .docket ∙ ap (notCarried (status h) (origin h)) (x .count)
-due-answer o s h audit x = ap length (x .track .docket ∙ ap (notCarried (status h) (origin h)) (x .count))
+due-answer o s h audit x = (x .kind, x .room, ap length (x .track .docket ∙ ap (notCarried (status h) (origin h)) (x .count)))
 
 asks : (o s : State) (h : List Event) (q : Question) → Kept o s h → Sound o s h (ask q) (still (asked s q))
 unfolding status origin rise columnSum
@@ -81,12 +82,21 @@ out-found (Some x) r e =
       | false ↦ λ t f. let z : _≡_ {A = ℕ} 0 1 = cc in absurd (omega arith)
     ]) refl e
 
-slip-found : (s : State) (m n : ℕ) (r : Record) → slipRecord s m n ≡ Some r → (found n (s .docket) ≡ Some r) × (r .standing ≡ Out)
+slip-found : (s : State) (m n : ℕ) (r : Record) → slipRecord s m n ≡ Some r → (m ≡ s .mark) × (found n (s .docket) ≡ Some r) × (r .standing ≡ Out)
 slip-found s m n r e =
-    (elim (eqb m (s .mark)) as (λ b. cond b (ifOut (found n (s .docket))) None ≡ Some r → (found n (s .docket) ≡ Some r) × (r .standing ≡ Out)) [
-      | true ↦ λ f. out-found (found n (s .docket)) r f
-      | false ↦ λ f. let z : _≡_ {A = ℕ} 0 1 = cc in absurd (omega arith)
-    ]) e
+    (elim (eqb m (s .mark)) as (λ b. eqb m (s .mark) ≡ b → cond b (ifOut (found n (s .docket))) None ≡ Some r → (m ≡ s .mark) × (found n (s .docket) ≡ Some r) × (r .standing ≡ Out)) [
+      | true ↦ λ t f. let x = out-found (found n (s .docket)) r f in (eqb-true m (s .mark) t, x .0, x .1)
+      | false ↦ λ t f. let z : _≡_ {A = ℕ} 0 1 = cc in absurd (omega arith)
+    ]) refl e
+
+-- a slip whose record is not found is not this book's
+slip-missing : (o s : State) (h : List Event) (m n : ℕ) → Kept o s h → slipRecord s m n ≡ None → Ours o h m n → ⊥
+slip-missing o s h m n k e ours =
+    let lives = given-known (s .given) (status h) n (k .track .known) (λ z. held≢never Out (sym (ours .1) ∙ z)) in
+    let there : found n (s .docket) ≡ Some (recorded n (origin h n) Out) = ap (found n) (k .track .docket) ∙ is-there (status h) (origin h) (s .given) n Out (lives .0) (lives .1) (ours .1) in
+    let same : slipRecord s m n ≡ Some (recorded n (origin h n) Out) = cond-same m (s .mark) (ifOut (found n (s .docket))) None (ours .0 ∙ sym (k .mark)) ∙ ap ifOut there in
+    let z : _≡_ {A = ℕ} 0 1 = cc in
+    omega arith
 
 -- a number of the docket becomes t
 turns : (g n : ℕ) (t : ℕ → Status) (w : ℕ → Origin) (r : Record) (x : Status) → Found t w g n r → Turning g n x t (λ m. cond (eqb n m) x (t m)) w w
@@ -125,10 +135,10 @@ carry-balanced m n a w f =
       national = λ j. nothing-national _ _ (past _);
     }
 
-carry-sound : (o s : State) (h : List Event) (m n a : ℕ) (r : Record) → Named a → Found (status h) (origin h) (s .given) n r → r .standing ≡ Out
+carry-sound : (o s : State) (h : List Event) (m n a : ℕ) (r : Record) → m ≡ o .mark → Named a → Found (status h) (origin h) (s .given) n r → r .standing ≡ Out
     → Sound o s h (carry m n a) (record { answer = tt; legs = Some (carryLegs r a); change = strikes n a })
 unfolding status origin
-carry-sound o s h m n a r f d t =
+carry-sound o s h m n a r is f d t =
     let lo : 2 ≤ a = f .low in
     record {
       makes = turns (s .given) n (status h) (origin h) r (carried a) d;
@@ -137,7 +147,7 @@ carry-sound o s h m n a r f d t =
       told = ap (λ (x : Record). transfers 1 a (residuesOf x)) (d .origin) ∙ told-record 1 a n (origin h n) (r .standing);
       balanced = carry-balanced m n a (origin h n) f;
       residues = λ k. origin-from 1 a (origin h n) k (omega arith);
-      due = d .status ∙ ap held t;
+      due = (is, d .status ∙ ap held t);
       fair = tt;
     }
 
@@ -148,41 +158,41 @@ carry-accepted o s h m n a v k e =
     let z = and-then (accountAt a 0) _ v (y .2) in
     let p = slip-found s m n (y .0) (found-there (slipRecord s m n) 12 0 (y .0) (y .1)) in
     subst (Sound o s h (carry m n a)) (ok-same _ v (z .2))
-    (carry-sound o s h m n a (y .0) (account-named a 0 (z .0) (z .1)) (docket-found o s h n (y .0) k (p .0)) (p .1))
+    (carry-sound o s h m n a (y .0) (p .0 ∙ k .mark) (account-named a 0 (z .0) (z .1)) (docket-found o s h n (y .0) k (p .1)) (p .2))
 
 -- ---- parking and taking up
 
-park-sound : (o s : State) (h : List Event) (m n : ℕ) (r : Record) → Found (status h) (origin h) (s .given) n r → r .standing ≡ Out
+park-sound : (o s : State) (h : List Event) (m n : ℕ) (r : Record) → m ≡ o .mark → Found (status h) (origin h) (s .given) n r → r .standing ≡ Out
     → Sound o s h (park m n) (record { answer = n; legs = None; change = restates n Parked })
 unfolding status origin rise columnSum
-park-sound o s h m zero r d t = let lo : 1 ≤ 0 = d .low in absurd (omega arith)
-park-sound o s h m (suc n) r d t = record {
+park-sound o s h m zero r is d t = let lo : 1 ≤ 0 = d .low in absurd (omega arith)
+park-sound o s h m (suc n) r is d t = record {
   makes = turns (s .given) (suc n) (status h) (origin h) r (held Parked) d;
   count = omega arith;
   timely = (r .standing, d .status);
   told = refl;
   balanced = record { within = tt; columns = λ k. refl; euro = λ i. nothing-euro _ _ _ refl; national = λ j. nothing-national _ _ refl };
   residues = λ k. refl;
-  due = inr (refl, d .status ∙ ap held t);
+  due = inl (refl, (is, d .status ∙ ap held t));
   fair = tt;
 }
 
-park-none : (o s : State) (h : List Event) (m n : ℕ) → Sound o s h (park m n) (still 0)
+park-none : (o s : State) (h : List Event) (m n : ℕ) → (Ours o h m n → ⊥) → Sound o s h (park m n) (still 0)
 unfolding status origin rise columnSum
-park-none o s h m n = record {
+park-none o s h m n other = record {
   makes = record { statuses = λ n. refl; origins = λ n. refl };
   count = omega arith;
   timely = tt;
   told = refl;
   balanced = record { within = tt; columns = λ k. refl; euro = λ i. nothing-euro _ _ _ refl; national = λ j. nothing-national _ _ refl };
   residues = λ k. refl;
-  due = inl refl;
+  due = inr (refl, other);
   fair = tt;
 }
 
 parks-at : (o s : State) (h : List Event) (m n : ℕ) (q : Option Record) → Kept o s h → slipRecord s m n ≡ q → Sound o s h (park m n) (parking n q)
-parks-at o s h m n None k e = park-none o s h m n
-parks-at o s h m n (Some r) k e = let p = slip-found s m n r e in park-sound o s h m n r (docket-found o s h n r k (p .0)) (p .1)
+parks-at o s h m n None k e = park-none o s h m n (slip-missing o s h m n k e)
+parks-at o s h m n (Some r) k e = let p = slip-found s m n r e in park-sound o s h m n r (p .0 ∙ k .mark) (docket-found o s h n r k (p .1)) (p .2)
 
 pub park-accepted : (o s : State) (h : List Event) (m n : ℕ) (v : Movement ℕ) → Kept o s h → _≡_ {A = Movement ℕ} (parking n (slipRecord s m n)) v → Sound o s h (park m n) v
 park-accepted o s h m n v k e = subst (Sound o s h (park m n)) e (parks-at o s h m n (slipRecord s m n) k refl)

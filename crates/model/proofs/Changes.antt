@@ -60,7 +60,7 @@ pub record Known (g : ℕ) (t : ℕ → Status) : Type 0 where
   pub zeroth : t 0 ≡ never
   pub born : (n : ℕ) → 1 ≤ n → n ≤ g → t n ≢ never
 
-held≢never : (p : Standing) → held p ≢ never
+pub held≢never : (p : Standing) → held p ≢ never
 held≢never p e = let z : _≡_ {A = ℕ} 0 1 = cc in omega arith
 
 pub carried≢never : (a : ℕ) → carried a ≢ never
@@ -99,6 +99,11 @@ known-turning g n s t t′ w w′ ne x k =
       zeroth = x .statuses 0 (omega arith) ∙ k .zeroth;
       born = λ m l h e. by-equal m n (λ q. ne (sym (x .is) ∙ sym (ap t′ q) ∙ e)) (λ q. k .born m l h (sym (x .statuses m q) ∙ e));
     }
+
+-- a number with a status is one of them
+pub given-known : (g : ℕ) (t : ℕ → Status) (n : ℕ) → Known g t → t n ≢ never → (1 ≤ n) × (n ≤ g)
+given-known g t zero k ne = absurd (ne (k .zeroth))
+given-known g t (suc n) k ne = (omega arith, ⊎-elim (λ l. absurd (ne (k .later (suc n) l))) (λ l. l) (cases-lt g (suc n)))
 
 -- ---- the docket
 

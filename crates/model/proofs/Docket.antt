@@ -120,6 +120,10 @@ there t w (suc g) n lo hi =
     (λ ne. found-left n (notCarried t w g) (recordFor (t (suc g)) (suc g) (w (suc g))) (other-number (t (suc g)) (suc g) n (w (suc g)) (λ e. ne (sym e)))
     ∙ there t w g n lo (omega arith))
 
+-- a number that is on the docket is found
+pub is-there : (t : ℕ → Status) (w : ℕ → Origin) (g n : ℕ) (p : Standing) → 1 ≤ n → n ≤ g → t n ≡ held p → found n (notCarried t w g) ≡ Some (recorded n (w n) p)
+is-there t w g n p lo hi e = there t w g n lo hi ∙ ap (λ (s : Status). found n (recordFor s n (w n))) e ∙ found-same p n (w n)
+
 -- What a record that is found says of its number.
 pub record Found (t : ℕ → Status) (w : ℕ → Origin) (g n : ℕ) (r : Record) : Type 0 where
   pub low : 1 ≤ n

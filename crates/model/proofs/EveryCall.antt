@@ -1,10 +1,9 @@
 -- Openings, and every call in every state. Assumes nothing.
 use mathlib.Core.Path.{_≡_, refl, ap}
-use mathlib.Core.Bool.{Bool, true, false, _&&_}
+use mathlib.Core.Bool.{Bool, true, false}
 use mathlib.Core.Logic.{_⊎_, inl, inr}
 use Prim.Native.Nat.{ℕ, zero, suc, _<_}
 use native.Mathlib.Omega.{arith}
-use lib.IntN.{pos}
 use Rattle.std.specs.declared.option.Option.{Option}
 use Rattle.std.specs.declared.option.Option.the-variants.{Some, None}
 use Rattle.std.specs.declared.result.Result.{Result}
@@ -13,12 +12,11 @@ use Rattle.std.proofs.shelf.Tests.{and-parts, and-from}
 use Rattle.register.specs.Register.{Refusal, byBook}
 use Rattle.ledger.specs.Entries.{isZero}
 use Rattle.ledger.specs.Limits.{columns}
-use Rattle.ledger.specs.Meaning.{Meaning}
 use Rattle.model.specs.declared.record.Record.{Record}
-use Rattle.model.specs.Calls.{Call, post, convert, split, carry, park, takeUp, sweep, ask, Reply}
-use Rattle.model.specs.Laws.{Clear, Fitness, NeverRefused, EveryCall}
+use Rattle.model.specs.Calls.{Call, post, convert, split, carry, park, takeUp, sweep, ask}
+use Rattle.model.specs.Laws.{Fitness, NeverRefused, EveryCall}
 use Rattle.model.specs.Results.{andThen, unless}
-use Rattle.model.specs.State.{State, allBelow, clearAt, opened}
+use Rattle.model.specs.State.{State, allBelow, clearAt}
 use Rattle.model.specs.Step.{Movement, parking, slipRecord, fitness, movement, performed, step}
 use Rattle.model.proofs.Posts.{is-zero}
 use Rattle.model.proofs.Runs.{all-below, ways}
@@ -42,7 +40,7 @@ fitness-clear = record {
 
 unmoved : (s : State) (c : Call) (refusal : Refusal) → step s c .0 ≡ Err refusal → step s c .1 ≡ s
 unmoved s c refusal =
-    ways s (movement s c) (λ p. p .0 ≡ Err refusal → p .1 ≡ s) (λ f e. refl) (λ v q e. let z : _≡_ {A = ℕ} 0 1 = cc in absurd (omega arith))
+    ways s (movement s c) (λ p. p .0 ≡ Err refusal → p .1 ≡ s) (λ f e. refl) (λ v q x t e. let z : _≡_ {A = ℕ} 0 1 = cc in absurd (omega arith))
 
 parks-at : (s : State) (n : ℕ) (o : Option Record) → (r : ℕ) × (performed s (Ok (parking n o)) .0 ≡ Ok r)
 parks-at s n None = (0, refl)
@@ -67,5 +65,5 @@ every-call = record {
   answers = λ s q. refl;
   parks = λ s m n. parks-at s n (slipRecord s m n);
   unfit = unfit-refuses;
-  keeps = λ s c. ways s (movement s c) (λ p. (p .1 .kind ≡ s .kind) × (p .1 .fit ≡ s .fit) × (p .1 .mark ≡ s .mark)) (λ f. (refl, refl, refl)) (λ v q. (refl, refl, refl));
+  keeps = λ s c. ways s (movement s c) (λ p. (p .1 .kind ≡ s .kind) × (p .1 .fit ≡ s .fit) × (p .1 .mark ≡ s .mark)) (λ f. (refl, refl, refl)) (λ v q x t. (refl, refl, refl));
 }

@@ -50,4 +50,7 @@ reckoned-refusals = record {
   sweepAccount = refl;
   sweepColumn = (refl, refl);
   sweepNothing = refl;
+  noRoom = refl;
+  enoughRoom = refl;
+  aboveCeiling = refl;
 }

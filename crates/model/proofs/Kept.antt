@@ -2,7 +2,7 @@
 use mathlib.Core.Path.{_≡_, refl, sym, ap, subst, _∙_}
 use mathlib.Core.Bool.{true}
 use mathlib.Core.List.{List, [], _∷_}
-use Prim.Native.Nat.{ℕ, _+_, _*_, _<_}
+use Prim.Native.Nat.{ℕ, _+_, _*_, _<_, _≤_}
 use native.Mathlib.Omega.{arith}
 use borrow.Author.Differences.{ints}
 use lib.IntN.{ℤ, pos, _+ℤ_, _-ℤ_, _*ℤ_}
@@ -22,11 +22,12 @@ use Rattle.ledger.specs.Legs.{columnSum, rise, sumTo}
 use Rattle.ledger.specs.Limits.{accounts, columns}
 use Rattle.ledger.specs.Meaning.{Meaning, entered}
 use Rattle.ledger.proofs.Rises.{rise-none}
+use Rattle.ledger.proofs.Walk.{verdict-taken}
 use Rattle.model.specs.Calls.{Call, Reply}
 use Rattle.model.specs.Conservation.{slips, besideExchange, Exact, Due, EachAccepted, SplitFairly}
-use Rattle.model.specs.History.{Event, event, Mention, mention, status, origin, numbersGiven, givenBy, carriesOf, accountOf, legsBy, risen, tally, ofConversions, exactOut, centsBooked, millsPassed, exactIn, unitsBooked, sweptFrom}
+use Rattle.model.specs.History.{Event, event, Mention, mention, status, origin, numbersGiven, givenBy, carriesOf, accountOf, legsBy, risen, legsTaken, tally, ofConversions, exactOut, centsBooked, millsPassed, exactIn, unitsBooked, sweptFrom}
 use Rattle.model.specs.State.{State}
-use Rattle.model.specs.Step.{Movement, givenAfter, ledgerAfter, moved}
+use Rattle.model.specs.Step.{Movement, givenAfter, ledgerVerdict, ledgerAfter, moved}
 use Rattle.model.proofs.Changes.{Makes, Track, track-change, heldSum, residueRise, held-change}
 use Rattle.model.proofs.Slips.{Timely, AllowedThen, allowed, numbers-more, once-more}
 use Rattle.model.proofs.Sums.{more-euro, more-national, total-stands, others-rise}
@@ -69,13 +70,15 @@ pub record Sound (o s : State) (h : List Event) (c : Call) (v : Movement (Reply 
   -- the docket account gets the residues of new records and gives those of struck ones
   pub residues : (k : ℕ) → rise (legsBy (origin h) c (v .answer)) 1 k ≡ residueRise (origin (event c (Ok (v .answer)) ∷ h)) (s .given) (v .change) k
   -- the answer is due
-  pub due : Due (o .ledger .cell) h c (v .answer)
+  pub due : Due o h c (v .answer)
   pub fair : SplitFairly h c (v .answer)
 
 -- ---- what is kept
 
 pub record Kept (o s : State) (h : List Event) : Type 0 where
+  pub kind : s .kind ≡ o .kind
   pub fit : s .fit ≡ true
+  pub mark : s .mark ≡ o .mark
   pub count : s .given ≡ slips h
   pub track : Track (s .given) (s .docket) (status h) (origin h)
   pub numbers : numbersGiven h ≡ counting 1 (slips h)
@@ -84,13 +87,20 @@ pub record Kept (o s : State) (h : List Event) : Type 0 where
   pub residues : (k : ℕ) → k < columns → s .ledger .cell 1 k ≡ heldSum (status h) (origin h) (s .given) k
   pub totals : (k : ℕ) → sumTo accounts (λ a. s .ledger .cell a k) ≡ sumTo accounts (λ a. o .ledger .cell a k)
   pub cells : (a k : ℕ) → s .ledger .cell a k ≡ o .ledger .cell a k +ℤ risen h a k
-  pub answers : EachAccepted (Due (o .ledger .cell)) h
+  pub room : s .ledger .room + legsTaken h ≡ o .ledger .room
+  pub answers : EachAccepted (Due o) h
   pub splits : EachAccepted SplitFairly h
 
 cell-after : (m : Meaning) (ls : Option (List Leg)) (a k : ℕ) → ledgerAfter m ls .cell a k ≡ m .cell a k +ℤ rise (legsIn ls) a k
 unfolding entered
 cell-after m None a k = omega (arith, ints, rise-none a k)
 cell-after m (Some ls) a k = refl
+
+-- the room after legs that the ledger took
+room-after : (m : Meaning) (ls : Option (List Leg)) (x : Unit {0}) → ledgerVerdict m ls ≡ Ok x → ledgerAfter m ls .room + length (legsIn ls) ≡ m .room
+unfolding entered
+room-after m None x e = omega arith
+room-after m (Some ls) x e = let h : length ls ≤ m .room = verdict-taken m ls e .0 in omega arith
 
 -- the cells after an accepted call, by the legs that the history tells
 cell-told : (o s : State) (h : List Event) (c : Call) (v : Movement (Reply c)) → Sound o s h c v → (a k : ℕ) → moved s v .ledger .cell a k ≡ s .ledger .cell a k +ℤ rise (legsBy (origin h) c (v .answer)) a k
@@ -100,14 +110,16 @@ count-step : (o s : State) (h : List Event) (c : Call) (v : Movement (Reply c)) 
 unfolding numbersGiven
 count-step o s h c v f e = f .count ∙ ap (λ (n : ℕ). n + length (givenBy (mention c (v .answer)))) e ∙ sym (length-append (numbersGiven h) (givenBy (mention c (v .answer))))
 
-pub kept-step : (o s : State) (h : List Event) (c : Call) (v : Movement (Reply c)) → Sound o s h c v → Kept o s h → Kept o (moved s v) (event c (Ok (v .answer)) ∷ h)
-unfolding status numbersGiven carriesOf risen
-kept-step o s h c v f k =
+pub kept-step : (o s : State) (h : List Event) (c : Call) (v : Movement (Reply c)) (x : Unit {0}) → ledgerVerdict (s .ledger) (v .legs) ≡ Ok x → Sound o s h c v → Kept o s h → Kept o (moved s v) (event c (Ok (v .answer)) ∷ h)
+unfolding status numbersGiven carriesOf risen legsTaken
+kept-step o s h c v taken t f k =
     let m : Mention = mention c (v .answer) in
     let ls : List Leg = legsBy (origin h) c (v .answer) in
     let may = allowed m (s .given) (status h) (subst (λ (n : ℕ). Timely m n (status h)) (sym (k .count)) (f .timely)) (k .track .known) in
     record {
+      kind = k .kind;
       fit = k .fit;
+      mark = k .mark;
       count = count-step o s h c v f (k .count);
       track = track-change (v .change) (s .given) (s .docket) (status h) (status (event c (Ok (v .answer)) ∷ h)) (origin h) (origin (event c (Ok (v .answer)) ∷ h)) (f .makes) (k .track);
       numbers = numbers-more m (numbersGiven h) (status h) (f .timely) (k .numbers);
@@ -124,14 +136,21 @@ kept-step o s h c v f k =
           let x = cell-told o s h c v f a j in
           let y = k .cells a j in
           omega (arith, ints);
+      room =
+          let a = room-after (s .ledger) (v .legs) taken t in
+          let b : length (legsIn (v .legs)) ≡ length ls = ap length (f .told) in
+          let d = k .room in
+          omega arith;
       answers = (f .due, k .answers);
       splits = (f .fair, k .splits);
     }
 
 pub kept-refused : (o s : State) (h : List Event) (c : Call) (r : Refusal) → Kept o s h → Kept o s (event c (Err r) ∷ h)
-unfolding status origin numbersGiven carriesOf risen
+unfolding status origin numbersGiven carriesOf risen legsTaken
 kept-refused o s h c r k = record {
+  kind = k .kind;
   fit = k .fit;
+  mark = k .mark;
   count = k .count;
   track = record { docket = k .track .docket; known = record { later = k .track .known .later; zeroth = k .track .known .zeroth; born = k .track .known .born } };
   numbers = k .numbers;
@@ -140,6 +159,7 @@ kept-refused o s h c r k = record {
   residues = k .residues;
   totals = k .totals;
   cells = k .cells;
+  room = k .room;
   answers = k .answers;
   splits = k .splits;
 }

@@ -22,7 +22,7 @@ use Rattle.ledger.proofs.Columns.{national-bounds}
 use Rattle.ledger.proofs.Rises.{by-equal, sum-zero}
 use Rattle.model.specs.Calls.{Call, post, convert, split, carry, park, takeUp, sweep, ask, Reply}
 use Rattle.model.specs.Conservation.{moneyColumns, EachAccepted, CarriedOnce, HoldsResidues, Exact, Conserved, ConservedFrom, Conservation, StillConserved}
-use Rattle.model.specs.History.{Event, event, after, events, Status, never, held, carried, status, Origin, origin, numbersGiven, carriesOf, residueAt, heldIn, notCarried, risen}
+use Rattle.model.specs.History.{Event, event, after, events, Status, never, held, carried, status, Origin, origin, numbersGiven, carriesOf, residueAt, heldIn, notCarried, risen, legsTaken}
 use Rattle.model.specs.State.{State, allBelow, clearAt, opened}
 use Rattle.model.specs.Step.{Movement, movement, ledgerVerdict, moved, settled, performed, step}
 use Rattle.model.proofs.Accepted.{ok-same}
@@ -40,12 +40,12 @@ use Rattle.model.proofs.Sweeps.{sweep-accepted}
 -- ---- a step: refused, or a movement
 
 ways-ledger : {A : Type 0} (s : State) (v : Movement A) (r : Result (Unit {0}) Refusal) (P : Result A Refusal × State → Type 0)
-    → ((f : Refusal) → P (Err f, s)) → P (Ok (v .answer), moved s v) → P (settled s v r)
-ways-ledger s v (Ok x) P stay go = go
+    → ((f : Refusal) → P (Err f, s)) → ((x : Unit {0}) → r ≡ Ok x → P (Ok (v .answer), moved s v)) → P (settled s v r)
+ways-ledger s v (Ok x) P stay go = go x refl
 ways-ledger s v (Err f) P stay go = stay f
 
 pub ways : {A : Type 0} (s : State) (r : Result (Movement A) Refusal) (P : Result A Refusal × State → Type 0)
-    → ((f : Refusal) → P (Err f, s)) → ((v : Movement A) → r ≡ Ok v → P (Ok (v .answer), moved s v)) → P (performed s r)
+    → ((f : Refusal) → P (Err f, s)) → ((v : Movement A) → r ≡ Ok v → (x : Unit {0}) → ledgerVerdict (s .ledger) (v .legs) ≡ Ok x → P (Ok (v .answer), moved s v)) → P (performed s r)
 ways s (Ok v) P stay go = ways-ledger s v (ledgerVerdict (s .ledger) (v .legs)) P stay (go v refl)
 ways s (Err f) P stay go = stay f
 
@@ -69,7 +69,7 @@ kept-from o s h k (c ∷ cs) =
     let u : State = after s cs in
     let g : List Event = events s cs ++ h in
     let i : Kept o u g = kept-from o s h k cs in
-    ways u (movement u c) (λ p. Kept o (p .1) (event c (p .0) ∷ g)) (λ f. kept-refused o u g c f i) (λ v e. kept-step o u g c v (sound o u g c v i e) i)
+    ways u (movement u c) (λ p. Kept o (p .1) (event c (p .0) ∷ g)) (λ f. kept-refused o u g c f i) (λ v e x t. kept-step o u g c v x t (sound o u g c v i e) i)
 
 exact-from : (o s : State) (h : List Event) → Kept o s h → (cs : List Call) → Exact s (after s cs) (events s cs)
 unfolding after events
@@ -79,7 +79,7 @@ exact-from o s h k (c ∷ cs) =
     let g : List Event = events s cs in
     let x : Exact s u g = exact-from o s h k cs in
     let i : Kept o u (g ++ h) = kept-from o s h k cs in
-    ways u (movement u c) (λ p. Exact s (p .1) (event c (p .0) ∷ g)) (λ f. exact-refused s u g c f x) (λ v e. exact-step o s u (g ++ h) g c v (sound o u (g ++ h) c v i e) x)
+    ways u (movement u c) (λ p. Exact s (p .1) (event c (p .0) ∷ g)) (λ f. exact-refused s u g c f x) (λ v e _ _. exact-step o s u (g ++ h) g c v (sound o u (g ++ h) c v i e) x)
 
 -- ---- a book that opens fit
 
@@ -94,9 +94,11 @@ clear : (m : Meaning) → allBelow (clearAt m) columns ≡ true → (k : ℕ) �
 clear m e k h = is-zero (m .cell 1 k) (and-parts (isZero (m .cell 0 k)) (isZero (m .cell 1 k)) (all-below (clearAt m) columns e k h) .1)
 
 start : (m : Meaning) (kind mark : ℕ) → opened m kind mark .fit ≡ true → Kept (opened m kind mark) (opened m kind mark) []
-unfolding status numbersGiven carriesOf risen notCarried sumTo
+unfolding status numbersGiven carriesOf risen legsTaken notCarried sumTo
 start m kind mark e = record {
+  kind = refl;
   fit = e;
+  mark = refl;
   count = refl;
   track = record { docket = refl; known = record { later = λ n h. refl; zeroth = refl; born = λ n lo hi z. omega arith } };
   numbers = refl;
@@ -105,6 +107,7 @@ start m kind mark e = record {
   residues = λ k h. clear m e k h;
   totals = λ k. refl;
   cells = λ a k. omega (arith, ints);
+  room = omega arith;
   answers = tt;
   splits = tt;
 }
@@ -154,6 +157,7 @@ conserved o s u h g x k = record {
   docketAccount = holds-residues o u (g ++ h) k;
   columnTotals = k .totals;
   cellRises = k .cells;
+  roomFalls = k .room;
   splits = k .splits;
 }
 

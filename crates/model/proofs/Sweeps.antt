@@ -4,7 +4,7 @@ use mathlib.Core.Bool.{true, false, cond, not}
 use mathlib.Core.List.{List, [], _∷_}
 use mathlib.Core.Logic.{_⊎_, inl, inr, ⊎-elim}
 use Prim.Native.Nat.{ℕ, zero, suc, _+_, _*_, _/_, _%_, _<_, _≤_}
-use native.Mathlib.Nat.{div-add-mod', mod-lt, mul-le-mul-right, add-mul}
+use native.Mathlib.Nat.{le-of-lt, div-add-mod', mod-lt, mul-le-mul-right, add-mul}
 use native.Mathlib.Omega.{arith}
 use borrow.Author.Differences.{ints}
 use lib.Dec.{eqb, leb}
@@ -38,52 +38,61 @@ use Rattle.model.proofs.Sums.{swept-euro, swept-national}
 
 -- ---- q
 
-within-above : (n : ℕ) → within mostSwept (pos n) ≡ pos (cond (leb n mostSwept) n mostSwept)
-within-above n = elim (leb n mostSwept) as (λ b. cond b (pos n) (pos mostSwept) ≡ pos (cond b n mostSwept)) [ true ↦ refl | false ↦ refl ]
+-- at most c, whatever c is
+abbrev capped : ℕ → ℕ → ℕ
+capped c n = cond (leb n c) n c
 
-within-below : (n : ℕ) → within mostSwept (negℤ (pos n)) ≡ negℤ (pos (cond (leb n mostSwept) n mostSwept))
-within-below zero = refl
-within-below (suc n) =
+within-above : (c n : ℕ) → within c (pos n) ≡ pos (capped c n)
+within-above zero n =
+    rw (le-leb 0 n (omega arith)) (elim (leb n 0) as (λ b. cond b (pos n) (pos 0) ≡ pos (cond b n 0)) [ true ↦ refl | false ↦ refl ])
+within-above (suc c) n = elim (leb n (suc c)) as (λ b. cond b (pos n) (pos (suc c)) ≡ pos (cond b n (suc c))) [ true ↦ refl | false ↦ refl ]
+
+within-below : (c n : ℕ) → within c (negℤ (pos n)) ≡ negℤ (pos (capped c n))
+within-below zero zero = refl
+within-below zero (suc n) = rw (lt-leb (suc n) 0 (omega arith))
+within-below (suc c) zero = rw (le-leb 0 (suc c) (omega arith))
+within-below (suc c) (suc n) =
     ⊎-elim
-    (λ l. rw (lt-leb (suc n) mostSwept l, lt-leb n 999 (omega arith)))
-    (λ l. rw (le-leb (suc n) mostSwept l, le-leb n 999 (omega arith)))
-    (cases-lt mostSwept (suc n))
+    (λ l. rw (lt-leb (suc n) (suc c) l, lt-leb n c (omega arith)))
+    (λ l. rw (le-leb (suc n) (suc c) l, le-leb n c (omega arith)))
+    (cases-lt (suc c) (suc n))
 
 size-below : (n : ℕ) → natAbs (negℤ (pos n)) ≡ n
 size-below zero = refl
 size-below (suc n) = refl
 
--- the whole units of d in n, but at most 1,000
-record Whole (n d m : ℕ) : Type 0 where
-  few : m ≤ mostSwept
+-- m is the whole units of d in n, but at most c
+record Whole (c n d m : ℕ) : Type 0 where
+  few : m ≤ c
   there : m * d ≤ n
-  all : (m ≡ mostSwept) ⊎ (n < (m + 1) * d)
+  all : (m ≡ c) ⊎ (n < (m + 1) * d)
 
-whole-cut : (n d : ℕ) → 0 < d → Whole n d (cond (leb (n / d) mostSwept) (n / d) mostSwept)
-whole-cut n d h =
+whole-cut : (c n d : ℕ) → 0 < d → Whole c n d (capped c (n / d))
+whole-cut c n d h =
+    let capped-at : c < n / d → c * d ≤ n / d * d = λ l. mul-le-mul-right d (le-of-lt l) in
     let e : n / d * d + n % d ≡ n = div-add-mod' n d in
     let r : n % d < d = mod-lt n h in
     let a : (n / d + 1) * d ≡ n / d * d + 1 * d = add-mul (n / d) 1 d in
     ⊎-elim
-    (λ l. let up : suc mostSwept ≤ n / d = l in
-    let m : mostSwept * d ≤ n / d * d = mul-le-mul-right d (omega arith) in
-    rw (lt-leb (n / d) mostSwept l) (record { few = omega arith; there = omega arith; all = inl refl }))
-    (λ l. rw (le-leb (n / d) mostSwept l) (record { few = l; there = omega arith; all = inr (omega arith) }))
-    (cases-lt mostSwept (n / d))
+    (λ l.
+    let m : c * d ≤ n / d * d = capped-at l in
+    rw (lt-leb (n / d) c l) (record { few = omega arith; there = omega arith; all = inl refl }))
+    (λ l. rw (le-leb (n / d) c l) (record { few = l; there = omega arith; all = inr (omega arith) }))
+    (cases-lt c (n / d))
 
-sweepable-at : (t q : ℤ) (d m : ℕ) → Whole (natAbs t) d m → natAbs q ≡ m → Alike t q → Sweepable t d q
+sweepable-at : (t q : ℤ) (d m : ℕ) → Whole mostSwept (natAbs t) d m → natAbs q ≡ m → Alike t q → Sweepable t d q
 sweepable-at t q d m w e s =
-    let x : Whole (natAbs t) d (natAbs q) = subst (Whole (natAbs t) d) (sym e) w in
+    let x : Whole mostSwept (natAbs t) d (natAbs q) = subst (Whole mostSwept (natAbs t) d) (sym e) w in
     record { alike = s; few = x .few; there = x .there; all = x .all }
 
 sweepable-is : (t : ℤ) (d : ℕ) → 0 < d → Sweepable t d (within mostSwept (quotZ t (pos d)))
 sweepable-is (pos n) d h =
-    let m : ℕ = cond (leb (n / d) mostSwept) (n / d) mostSwept in
-    subst (Sweepable (pos n) d) (sym (within-above (n / d))) (sweepable-at (pos n) (pos m) d m (whole-cut n d h) refl refl)
+    let m : ℕ = capped mostSwept (n / d) in
+    subst (Sweepable (pos n) d) (sym (within-above mostSwept (n / d))) (sweepable-at (pos n) (pos m) d m (whole-cut mostSwept n d h) refl refl)
 sweepable-is (negsuc n) d h =
-    let m : ℕ = cond (leb (suc n / d) mostSwept) (suc n / d) mostSwept in
-    subst (Sweepable (negsuc n) d) (sym (within-below (suc n / d)))
-    (sweepable-at (negsuc n) (negℤ (pos m)) d m (whole-cut (suc n) d h) (size-below m) (ap (λ (x : ℕ). negℤ (pos x)) (sym (size-below m))))
+    let m : ℕ = capped mostSwept (suc n / d) in
+    subst (Sweepable (negsuc n) d) (sym (within-below mostSwept (suc n / d)))
+    (sweepable-at (negsuc n) (negℤ (pos m)) d m (whole-cut mostSwept (suc n) d h) (size-below m) (ap (λ (x : ℕ). negℤ (pos x)) (sym (size-below m))))
 
 whole-positive : (f : FractionColumn) → 0 < wholeParts f
 whole-positive (EuroOf i) = omega (arith, rate-bounds i)

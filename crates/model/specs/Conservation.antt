@@ -25,12 +25,13 @@ use Rattle.ledger.specs.Legs.{sumTo}
 use Rattle.ledger.specs.Limits.{accounts, columns}
 use Rattle.ledger.specs.Meaning.{Meaning}
 use Rattle.apportion.specs.Laws.{Fair}
+use Rattle.model.specs.declared.record.Record.{Record}
 use Rattle.model.specs.declared.record.Standing.the-variants.{Out, Parked}
 use Rattle.model.specs.declared.request.Exchange.{Exchange}
 use Rattle.model.specs.Calls.{Question, cell, room, kind, fit, mark, given, records, audit, Answer, Call, post, convert, split, carry, park, takeUp, sweep, ask, Reply}
-use Rattle.model.specs.History.{Event, event, after, events, never, held, status, numbersGiven, carriesOf, accountOf, Unconcerned, sourceOf, targetOf, amountOf, origin, notCarried, heldIn, risen, tally, ofConversions, exactOut, centsBooked, millsPassed, exactIn, unitsBooked, sweptFrom}
+use Rattle.model.specs.History.{Event, event, after, events, never, held, status, numbersGiven, carriesOf, accountOf, Unconcerned, sourceOf, targetOf, amountOf, origin, notCarried, heldIn, risen, legsTaken, tally, ofConversions, exactOut, centsBooked, millsPassed, exactIn, unitsBooked, sweptFrom}
 use Rattle.model.specs.Postings.{mostSwept}
-use Rattle.model.specs.State.{State, docketAccount as residues, opened}
+use Rattle.model.specs.State.{State, docketAccount, opened}
 
 -- the columns below this are money
 abbrev pub moneyColumns : ℕ
@@ -62,9 +63,9 @@ pub record CarriedOnce (h : List Event) : Type 0 where
 pub record HoldsResidues (s : State) (h : List Event) : Type 0 where
   -- in each fraction column it has exactly the residues of the numbers not carried
   pub fractions : (k : ℕ) → moneyColumns ≤ k → k < columns
-      → s .ledger .cell residues k ≡ sumTo (slips h) (λ n. heldIn (status h (suc n)) (origin h (suc n)) k)
+      → s .ledger .cell docketAccount k ≡ sumTo (slips h) (λ n. heldIn (status h (suc n)) (origin h (suc n)) k)
   -- and in each money column 0
-  pub money : (k : ℕ) → k < moneyColumns → s .ledger .cell residues k ≡ pos 0
+  pub money : (k : ℕ) → k < moneyColumns → s .ledger .cell docketAccount k ≡ pos 0
 
 -- ---- the sums between two points
 
@@ -105,30 +106,38 @@ pub record Sweepable (t : ℤ) (d : ℕ) (q : ℤ) : Type 0 where
   pub there : natAbs q * d ≤ natAbs t
   pub all : (natAbs q ≡ mostSwept) ⊎ (natAbs t < (natAbs q + 1) * d)
 
--- what a question about cells, slips or the docket answers, by the history h before it and the cells at opening
-abbrev pub DueAnswer : (ℕ → ℕ → ℤ) → List Event → (q : Question) → Answer q → Type 0
-DueAnswer cells h (cell a k) r = r ≡ cells a k +ℤ risen h a k
-DueAnswer cells h room r = Unit {0}
-DueAnswer cells h kind r = Unit {0}
-DueAnswer cells h fit r = r ≡ true
-DueAnswer cells h mark r = Unit {0}
-DueAnswer cells h given r = r ≡ slips h
-DueAnswer cells h records r = r ≡ notCarried (status h) (origin h) (slips h)
-DueAnswer cells h audit r = r .records ≡ length (notCarried (status h) (origin h) (slips h))
+-- the docket that a history makes
+abbrev pub openSlips : List Event → List Record
+openSlips h = notCarried (status h) (origin h) (slips h)
 
--- What an accepted call answers, by the history h before it and the cells at opening: a conversion b and the next number;
--- a parking the number of a slip that is out, or 0; a take-up a number that is parked; a sweep q of its cell. Only a
--- number that is out is carried.
-abbrev pub Due : (ℕ → ℕ → ℤ) → List Event → (c : Call) → Reply c → Type 0
-Due cells h (post ps) r = Unit {0}
-Due cells h (convert x) r = Books x (r .0) × (r .1 ≡ suc (slips h))
-Due cells h (split tie law d shares m n) r = Unit {0}
-Due cells h (carry m n a) r = status h n ≡ held Out
-Due cells h (park m n) r = (r ≡ 0) ⊎ ((r ≡ n) × (status h n ≡ held Out))
-Due cells h (takeUp n) r = (r ≡ n) × (status h n ≡ held Parked)
-Due cells h (sweep a k) q =
-    (f : FractionColumn) × (fractionNumber f ≡ k) × Sweepable (cells a k +ℤ risen h a k) (wholeParts f) (q .0)
-Due cells h (ask q) r = DueAnswer cells h q r
+-- what a question answers, by the book as it opened and the history h since
+abbrev pub DueAnswer : State → List Event → (q : Question) → Answer q → Type 0
+DueAnswer o h (cell a k) r = r ≡ o .ledger .cell a k +ℤ risen h a k
+DueAnswer o h room r = r + legsTaken h ≡ o .ledger .room
+DueAnswer o h kind r = r ≡ o .kind
+DueAnswer o h fit r = r ≡ true
+DueAnswer o h mark r = r ≡ o .mark
+DueAnswer o h given r = r ≡ slips h
+DueAnswer o h records r = r ≡ openSlips h
+DueAnswer o h audit r = (r .kind ≡ o .kind) × (r .room + legsTaken h ≡ o .ledger .room) × (r .records ≡ length (openSlips h))
+
+-- a slip is this book's: the mark is the book's, and the number is out
+abbrev pub Ours : State → List Event → (mark number : ℕ) → Type 0
+Ours o h m n = (m ≡ o .mark) × (status h n ≡ held Out)
+
+-- What an accepted call answers, by the book as it opened and the history h since: a conversion b and the next number; a
+-- parking the number of a slip that is this book's, and 0 for any other; a take-up a number that is parked; a sweep q of
+-- its cell. Only a slip that is this book's is carried.
+abbrev pub Due : State → List Event → (c : Call) → Reply c → Type 0
+Due o h (post ps) r = Unit {0}
+Due o h (convert x) r = Books x (r .0) × (r .1 ≡ suc (slips h))
+Due o h (split tie law d shares m n) r = Unit {0}
+Due o h (carry m n a) r = Ours o h m n
+Due o h (park m n) r = ((r ≡ n) × Ours o h m n) ⊎ ((r ≡ 0) × (Ours o h m n → ⊥))
+Due o h (takeUp n) r = (r ≡ n) × (status h n ≡ held Parked)
+Due o h (sweep a k) q =
+    (f : FractionColumn) × (fractionNumber f ≡ k) × Sweepable (o .ledger .cell a k +ℤ risen h a k) (wholeParts f) (q .0)
+Due o h (ask q) r = DueAnswer o h q r
 
 -- P of each accepted call, its answer and the history before it
 abbrev pub EachAccepted : (List Event → (c : Call) → Reply c → Type 0) → List Event → Type 0
@@ -153,13 +162,13 @@ SplitFairly h (ask q) r = Unit {0}
 -- second, with g asked and answered since.
 pub record Conserved (o s s′ : State) (h g : List Event) : Type 0 where
   -- what each accepted call answered is what the rules give
-  pub answers : EachAccepted (Due (o .ledger .cell)) (g ++ h)
+  pub answers : EachAccepted (Due o) (g ++ h)
   -- the slips are numbered 1, 2, 3 and onward
   pub numbered : numbersGiven (g ++ h) ≡ counting 1 (slips (g ++ h))
   -- each number given is out, parked, or carried exactly once
   pub carriedOnce : CarriedOnce (g ++ h)
   -- the docket lists exactly the numbers not carried, with state and residues, by rising number
-  pub docket : s′ .docket ≡ notCarried (status (g ++ h)) (origin (g ++ h)) (slips (g ++ h))
+  pub docket : s′ .docket ≡ openSlips (g ++ h)
   -- between the points, exact amounts are what was booked, swept and passed on, and what the fraction columns rose by
   pub fractionsBetween : Exact s s′ g
   -- the docket account holds exactly the residues of the numbers not carried, and no money
@@ -168,6 +177,8 @@ pub record Conserved (o s s′ : State) (h g : List Event) : Type 0 where
   pub columnTotals : (k : ℕ) → sumTo accounts (λ a. s′ .ledger .cell a k) ≡ sumTo accounts (λ a. o .ledger .cell a k)
   -- every cell has risen since opening by exactly the legs of the accepted calls
   pub cellRises : (a k : ℕ) → s′ .ledger .cell a k ≡ o .ledger .cell a k +ℤ risen (g ++ h) a k
+  -- the room has fallen since opening by exactly the number of these legs
+  pub roomFalls : s′ .ledger .room + legsTaken (g ++ h) ≡ o .ledger .room
   -- each accepted split is fair
   pub splits : EachAccepted SplitFairly (g ++ h)
 

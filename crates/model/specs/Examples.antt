@@ -7,7 +7,7 @@ use lib.Dec.{eqb}
 use lib.IntN.{ℤ, pos, negℤ}
 use lib.ListN.{replicate}
 use Rattle.std.specs.declared.result.Result.the-variants.{Ok, Err}
-use Rattle.register.specs.Register.{Refusal, byBook}
+use Rattle.register.specs.Register.{Refusal, byBook, byLedger}
 use Rattle.money.specs.declared.currency.Currency.the-variants.{Euro, National as Of}
 use Rattle.money.specs.declared.currency.National.the-variants.{Itl}
 use Rattle.money.specs.declared.quantity.Minor.{Minor}
@@ -148,6 +148,10 @@ bookWith n m = record {
   docket = replicate m (record { number = n; from = Of Itl; to = Euro; euro = noParts; national = noParts; standing = Out });
 }
 
+-- a book on an empty ledger of some room, none of whose cells may go above a ceiling
+abbrev bookOn : ℕ → ℤ → State
+bookOn space most = opened (record { room = space; cell = λ a k. pos 0; floor = floorOf; ceiling = λ a k. most }) 83 7
+
 pub record ReckonedRefusals : Type 0 where
   -- an unfit book refuses first of all, and only a parking and a question are not refused
   pub unfit : (unfitBook .fit ≡ false) × Refused unfitBook (exchangeTo 1 12 12 (minors 0)) (byBook 1 0) × Refused unfitBook (sweep 1 99) (byBook 1 0)
@@ -188,3 +192,7 @@ pub record ReckonedRefusals : Type 0 where
   pub sweepAccount : Refused newBook (sweep 1 11) (byBook 4 0)
   pub sweepColumn : Refused newBook (sweep 40 11) (byBook 16 0) × Refused newBook (sweep 40 34) (byBook 16 0)
   pub sweepNothing : Refused newBook (sweep 40 33) (byBook 15 0)
+  -- the ledger's: six legs need room for six, and the second puts nine lire into the exchange account
+  pub noRoom : Refused (bookOn 5 (pos 900000)) nineLire (byLedger 17 0 0)
+  pub enoughRoom : step (bookOn 6 (pos 900000)) nineLire .0 ≡ Ok (minors 0, 1)
+  pub aboveCeiling : Refused (bookOn 6 (pos 8)) nineLire (byLedger 18 2 0)

@@ -5,6 +5,7 @@ use mathlib.Core.Logic.{_≢_}
 use Prim.Native.Nat.{ℕ, zero, suc, _+_, _*_}
 use lib.Dec.{eqb}
 use lib.IntN.{ℤ, pos, negℤ, natAbs, _+ℤ_, _-ℤ_, _*ℤ_}
+use lib.ListN.{length}
 use Rattle.std.specs.declared.option.Option.{Option}
 use Rattle.std.specs.declared.option.Option.the-variants.{Some, None}
 use Rattle.std.specs.declared.result.Result.{Result}
@@ -291,6 +292,12 @@ unfoldable pub risen : List Event → ℕ → ℕ → ℤ
 risen [] a k = pos 0
 risen (event c (Ok r) ∷ h) a k = rise (legsBy (origin h) c r) a k +ℤ risen h a k
 risen (event c (Err f) ∷ h) a k = risen h a k
+
+-- how many legs all accepted calls have
+unfoldable pub legsTaken : List Event → ℕ
+legsTaken [] = 0
+legsTaken (event c (Ok r) ∷ h) = length (legsBy (origin h) c r) + legsTaken h
+legsTaken (event c (Err f) ∷ h) = legsTaken h
 
 -- ---- sums over accepted calls
 

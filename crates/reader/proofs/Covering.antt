@@ -1,18 +1,18 @@
 -- The words of a line cover it. Assumes nothing.
-use mathlib.Core.Path.{_≡_, refl, sym, ap, subst, _∙_}
-use mathlib.Core.Bool.{Bool, true, false, cond, _&&_}
+use mathlib.Core.Path.{_≡_, refl, sym, ap, _∙_}
+use mathlib.Core.Bool.{true, false, cond, _&&_}
 use mathlib.Core.List.{List, [], _∷_}
 use mathlib.Core.Logic.{⊎-elim}
 use Prim.Native.Nat.{ℕ, zero, suc, _+_, _-_, _≤_, _<_}
 use native.Mathlib.Nat.{zero-add}
 use native.Mathlib.Omega.{arith}
-use lib.Dec.{eqb, leb, ltb}
+use lib.Dec.{eqb, ltb}
 use lib.ListN.{length, take, drop, getD}
 use Rattle.std.specs.shelf.Lists.{All}
 use Rattle.std.proofs.shelf.Tests.{eqb-true, eqb-false, cond-true, cond-false, cond-both, le-leb, lt-leb, lt-ltb, le-ltb, and-left, and-right, and-from, cases-lt}
 use Rattle.reader.specs.Bytes.{space}
 use Rattle.reader.specs.Laws.{Stands, Apart, holds, holders, Covers, WordsCover}
-use Rattle.reader.specs.Words.{Piece, extend, wordsFrom, wordsOf}
+use Rattle.reader.specs.Words.{Piece, extend, wordsFrom}
 
 -- a byte more in front only moves the column
 stands-later : (c b : ℕ) (bs : List ℕ) (w : Piece) → Stands (suc c) bs w → Stands c (b ∷ bs) w

@@ -1,18 +1,18 @@
 -- How an input is cut into lines, and a line into words, one at a time. Assumes nothing.
 use mathlib.Core.Path.{_≡_, refl, sym, ap, subst, _∙_}
-use mathlib.Core.Bool.{Bool, true, false, cond}
-use mathlib.Core.List.{List, [], _∷_, _++_, map}
+use mathlib.Core.Bool.{true, false, cond}
+use mathlib.Core.List.{List, [], _∷_, _++_}
 use mathlib.Core.Logic.{_⊎_, inl, inr, ⊎-elim}
 use Prim.Native.Nat.{ℕ, suc, _+_, _-_, _≤_, _<_}
 use native.Mathlib.Omega.{arith}
-use native.Mathlib.Nat.{add-zero, add-suc, suc-add}
-use lib.Dec.{eqb, ltb}
-use lib.ListN.{length, getD, take, drop, length-drop}
+use native.Mathlib.Nat.{add-zero}
+use lib.Dec.{eqb}
+use lib.ListN.{length, take, drop, length-drop}
 use Rattle.std.proofs.shelf.Tests.{eqb-true, eqb-false, ne-eqb, eq-eqb, cond-false, cond-true, cases-bool, cases-lt, cond-both}
 use Rattle.std.proofs.shelf.Lists.{take-all, drop-all}
 use Rattle.reader.specs.Bytes.{before, leading, newline, space}
 use Rattle.reader.specs.Lines.{onto, linesOf, OneLine, Cut}
-use Rattle.reader.specs.Words.{Piece, extend, wordsFrom, wordsOf}
+use Rattle.reader.specs.Words.{Piece, extend, wordsFrom}
 
 pub before-le : (s : ℕ) (bs : List ℕ) → before s bs ≤ length bs
 before-le s [] = omega arith
@@ -127,29 +127,30 @@ before-whole (b ∷ bs) =
     (λ e. tt)
     (λ e. (eqb-false b newline e, before-whole bs))
 
-before-joins : (bs : List ℕ) → before newline bs < length bs → bs ≡ take (before newline bs) bs ++ (newline ∷ drop (suc (before newline bs)) bs)
-before-joins [] h = absurd (omega arith)
-before-joins (b ∷ bs) h =
+-- the bytes before the first s, that s, and what follows it
+pub before-joins : (s : ℕ) (bs : List ℕ) → before s bs < length bs → bs ≡ take (before s bs) bs ++ (s ∷ drop (before s bs + 1) bs)
+before-joins s [] h = absurd (omega arith)
+before-joins s (b ∷ bs) h =
     ⊎-elim
     (λ e.
-    ap (λ x. x ∷ bs) (eqb-true b newline e)
-    ∙ ap (λ k. take k (b ∷ bs) ++ (newline ∷ drop (suc k) (b ∷ bs))) (sym (cond-true (eqb b newline) 0 (suc (before newline bs)) e)))
+    ap (λ x. x ∷ bs) (eqb-true b s e)
+    ∙ ap (λ k. take k (b ∷ bs) ++ (s ∷ drop (k + 1) (b ∷ bs))) (sym (cond-true (eqb b s) 0 (suc (before s bs)) e)))
     (λ e.
-    let k = cond-false (eqb b newline) 0 (suc (before newline bs)) e in
-    let less : suc (before newline bs) < suc (length bs) = subst (λ n. n < suc (length bs)) k h in
-    ap (λ l. b ∷ l) (before-joins bs (omega arith))
-    ∙ ap (λ k. take k (b ∷ bs) ++ (newline ∷ drop (suc k) (b ∷ bs))) (sym k))
-    (cases-bool (eqb b newline))
+    let k = cond-false (eqb b s) 0 (suc (before s bs)) e in
+    let less : suc (before s bs) < suc (length bs) = subst (λ n. n < suc (length bs)) k h in
+    let up : suc (before s bs + 1) ≡ suc (before s bs) + 1 = omega arith in
+    ap (λ l. b ∷ l) (before-joins s bs (omega arith))
+    ∙ ap (λ n. b ∷ (take (before s bs) bs ++ (s ∷ drop n (b ∷ bs)))) up
+    ∙ ap (λ k. take k (b ∷ bs) ++ (s ∷ drop (k + 1) (b ∷ bs))) (sym k))
+    (cases-bool (eqb b s))
 
 -- the first line and the rest are what the input was
 pub line-cut : (bs l r : List ℕ) → l ≡ take (before newline bs) bs → r ≡ drop (before newline bs + 1) bs → Cut bs l r
 line-cut bs l r p q = record {
   oneLine = subst OneLine (sym p) (before-whole bs);
   joins =
-      let up : before newline bs + 1 ≡ suc (before newline bs) = omega arith in
-      let q′ : r ≡ drop (suc (before newline bs)) bs = q ∙ ap (λ k. drop k bs) up in
       ⊎-elim
-      (λ lt. inl (before-joins bs lt ∙ (λ i. sym p i ++ (newline ∷ sym q′ i))))
+      (λ lt. inl (before-joins newline bs lt ∙ (λ i. sym p i ++ (newline ∷ sym q i))))
       (λ le. inr (sym (p ∙ take-all (before newline bs) bs le), q ∙ drop-all (before newline bs + 1) bs (omega arith)))
       (cases-lt (before newline bs) (length bs));
 }

@@ -1,14 +1,14 @@
 -- Words written one after another over the front of a list. Assumes nothing.
 use mathlib.Core.Path.{_≡_, refl, sym, ap, subst, _∙_}
-use mathlib.Core.List.{List, [], _∷_, _++_, map, append-nil, append-assoc}
-use Prim.Native.Nat.{ℕ, suc, _+_, _-_, _≤_, _<_}
+use mathlib.Core.List.{List, [], _∷_, _++_, map, append-assoc}
+use Prim.Native.Nat.{ℕ, _+_, _-_, _≤_, _<_}
 use native.Mathlib.Omega.{arith}
-use lib.ListN.{length, getD, take, drop, set}
+use lib.ListN.{length, take, drop, set}
 use Rattle.std.proofs.shelf.Lists.{take-append-drop, map-append, take-more-set, drop-more, drop-set-lt, take-all, drop-all}
 use Rattle.reader.specs.declared.word.Word.{Word}
 use Rattle.reader.specs.Bytes.{before, leading}
 use Rattle.reader.specs.Words.{Piece, wordsFrom, wordsOf}
-use Rattle.reader.specs.Kinds.{WordRead, kindOf, readPiece, wordsIn, view, over}
+use Rattle.reader.specs.Kinds.{kindOf, readPiece, wordsIn, view, over}
 use Rattle.reader.proofs.Cuts.{words-next, words-left}
 
 -- the words before column stand in the first count places, and rest is what is left of the line

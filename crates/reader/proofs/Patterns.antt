@@ -1,8 +1,8 @@
 -- A line's words, read by its pattern. Assumes nothing.
 use mathlib.Core.Path.{_≡_, refl, sym, ap, subst, _∙_}
-use mathlib.Core.Bool.{Bool, true, false, cond}
+use mathlib.Core.Bool.{cond}
 use mathlib.Core.List.{List, [], _∷_, _++_, map, append-assoc, append-nil}
-use Prim.Native.Nat.{ℕ, suc, _+_, _-_, _%_, _^_, _≤_, _<_}
+use Prim.Native.Nat.{ℕ, _+_, _-_, _%_, _^_, _≤_, _<_}
 use lib.IntN.{ℤ}
 use native.Mathlib.Omega.{arith}
 use lib.Dec.{eqb, leb}
@@ -19,7 +19,7 @@ use Rattle.reader.specs.declared.word.Word.{Word}
 use Rattle.reader.specs.declared.word.Word.the-variants.{Name}
 use Rattle.register.specs.Register.{Refusal}
 use Rattle.reader.specs.declared.pattern.Verb.the-variants.{Post, Conv, Split, Carry, Sweep}
-use Rattle.reader.specs.Kinds.{WithinDigits, Readable, WordRead, kindBy, kindOf, readPiece, wordsIn, view, over}
+use Rattle.reader.specs.Kinds.{WithinDigits, Readable, kindBy, kindOf, readPiece, wordsIn, view, over}
 use Rattle.model.specs.declared.request.Posting.{Posting}
 use Rattle.apportion.specs.declared.share.Share.{Share}
 use Rattle.reader.specs.Requests.{readAs, andThen, numberAt, currencyAt, shareAt, carry, sweep, convert, unknownPattern, amountAt, putFirst, postingOf, postingsOf, sharesOf, split, post, verbOf, readWords, readLine}

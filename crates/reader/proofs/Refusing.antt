@@ -2,17 +2,17 @@
 use mathlib.Core.Path.{_≡_, refl, subst}
 use mathlib.Core.Bool.{Bool, true, false, cond}
 use mathlib.Core.List.{List, [], _∷_, map}
-use mathlib.Core.Logic.{_⊎_, inl, inr, ⊎-elim}
+use mathlib.Core.Logic.{inl, inr}
 use Prim.Native.Nat.{ℕ, _%_, _≤_}
 use native.Mathlib.Omega.{arith}
 use Rattle.std.proofs.shelf.Tests.{eqb-true, leb-true}
 use lib.Dec.{eqb, leb}
-use lib.ListN.{length, drop}
+use lib.ListN.{length}
 use Rattle.std.specs.declared.option.Option.{Option}
 use Rattle.std.specs.declared.option.Option.the-variants.{Some, None}
 use Rattle.std.specs.declared.result.Result.{Result}
 use Rattle.std.specs.declared.result.Result.the-variants.{Ok, Err}
-use Rattle.register.specs.Register.{Refusal, byReader}
+use Rattle.register.specs.Register.{Refusal}
 use Rattle.money.specs.Conversions.{minors}
 use Rattle.money.specs.Table.{coded}
 use Rattle.money.specs.declared.currency.Currency.{Currency}
@@ -22,7 +22,7 @@ use Rattle.reader.specs.Kinds.{Kind, name, number, signed, code, pair, kindOf,
 use Rattle.reader.specs.Limits.{mostWords}
 use Rattle.reader.specs.Requests.{Asked, post, carry, sweep, andThen, putFirst, asNumber, asSigned, asShare, asCurrency, numberIfKnown, numberAt, amountAt, signedAt, currencyAt, shareAt, postingOf, postingsOf, sharesOf, verbOf, readAs, readWords, readLine, readPost, readConv, readSplit, readCarry, readSweep, unknownPattern}
 use Rattle.reader.specs.Words.{Piece, wordsOf}
-use Rattle.reader.specs.Writing.{OneOf, RefusedAt}
+use Rattle.reader.specs.Writing.{RefusedAt}
 
 -- a refusal is of the words ws
 abbrev Rightly : {X : Type 0} → List Piece → Result X Refusal → Type 0

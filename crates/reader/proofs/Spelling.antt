@@ -1,9 +1,9 @@
 -- A number has one spelling. Assumes nothing.
-use mathlib.Core.Path.{_≡_, refl, sym, ap, subst, _∙_}
+use mathlib.Core.Path.{_≡_, refl, sym, ap, _∙_}
 use mathlib.Core.Bool.{Bool, true, false, cond, _&&_}
 use mathlib.Core.List.{List, [], _∷_}
 use mathlib.Core.Logic.{⊎-elim}
-use Prim.Native.Nat.{ℕ, suc, _+_, _-_, _*_, _^_, _≤_, _<_}
+use Prim.Native.Nat.{ℕ, _+_, _-_, _*_, _^_, _≤_, _<_}
 use native.Mathlib.Omega.{arith}
 use borrow.Author.Needs.{needs}
 use lib.Dec.{leb}
@@ -13,7 +13,7 @@ use Rattle.std.specs.declared.option.Option.the-variants.{Some, None}
 use Rattle.std.specs.Written.{decimal}
 use Rattle.std.proofs.shelf.Decimals.{decimal-digit, digits-decimal, value-decimal, length-decimal-le, decimal-some, first-decimal, decimal-value}
 use Rattle.std.proofs.shelf.Numerals.{Numerals, numerals-by-fold, value-short}
-use Rattle.std.proofs.shelf.Tests.{and-parts, and-from, le-leb, leb-true, cond-true, cond-false, cases-bool, cases-lt}
+use Rattle.std.proofs.shelf.Tests.{and-parts, and-from, le-leb, leb-true, cond-true, cases-lt}
 use Rattle.reader.specs.Numbers.{digit, digitsAfter, plain, numberIn}
 use Rattle.reader.specs.Limits.{mostDigits}
 use Rattle.reader.specs.Laws.{OneSpelling}

@@ -1,14 +1,13 @@
 -- A word says something exactly if it is written so. Assumes nothing.
-use mathlib.Core.Path.{_≡_, refl, sym, ap, subst, _∙_}
+use mathlib.Core.Path.{_≡_, refl, sym, ap, _∙_}
 use mathlib.Core.Bool.{Bool, true, false, cond, _&&_}
 use mathlib.Core.List.{List, [], _∷_, _++_}
 use mathlib.Core.Logic.{_⊎_, inl, inr, ⊎-elim}
-use Prim.Native.Nat.{ℕ, suc, _+_, _-_, _*_, _^_, _≤_, _<_}
+use Prim.Native.Nat.{ℕ, suc, _+_, _-_, _*_, _^_, _<_}
 use native.Mathlib.Omega.{arith}
-use lib.Chars.{codes}
 use lib.Dec.{eqb, leb, ltb}
 use lib.IntN.{ℤ, pos, negℤ}
-use lib.ListN.{length, take, drop, getD}
+use lib.ListN.{length, take, drop}
 use Rattle.std.specs.declared.option.Option.{Option}
 use Rattle.std.specs.declared.option.Option.the-variants.{Some, None}
 use Rattle.std.specs.declared.result.Result.{Result}
@@ -17,7 +16,7 @@ use Rattle.std.specs.Options.{mapped}
 use Rattle.std.specs.Written.{decimal}
 use Rattle.std.proofs.shelf.Decimals.{decimal-some}
 use Rattle.std.proofs.shelf.Lists.{take-all, take-append-le, length-append}
-use Rattle.std.proofs.shelf.Tests.{leb-true, lt-leb, ne-eqb, eqb-true, eqb-false, and-parts, and-left, and-right, cond-true, cond-false, cases-bool, lt-ltb, ltb-true}
+use Rattle.std.proofs.shelf.Tests.{leb-true, lt-leb, ne-eqb, eqb-true, and-parts, and-left, cond-true, cond-false, cases-bool, lt-ltb, ltb-true}
 use Rattle.register.specs.Register.{Refusal}
 use Rattle.money.specs.Conversions.{minors}
 use Rattle.money.specs.Table.{coded, codeOf, numberOf}
@@ -34,6 +33,7 @@ use Rattle.reader.specs.Numbers.{digit, digitsAfter, plain, numberIn, signedIn
 use Rattle.reader.specs.Requests.{numberAt, amountAt, signedAt, currencyAt, shareAt, andThen, asNumber, asSigned, asShare, asCurrency, numberIfKnown}
 use Rattle.reader.specs.Words.{Piece}
 use Rattle.reader.specs.Writing.{SpellsNumber, SpellsAmount, SpellsSigned, SpellsCurrency, SpellsShare}
+use Rattle.reader.proofs.Cuts.{before-joins}
 use Rattle.reader.proofs.Spelling.{one-spelling, decimal-digits, all-digits}
 
 -- a step that gave something came of one that did
@@ -254,22 +254,6 @@ currency-read p n h =
     ∙ ap (numberIfKnown (p .column)) (names .byCode (h .currency)) ∙ ap (λ k. Ok k) (h .number)
 
 -- shares
-
-before-joins : (s : ℕ) (bs : List ℕ) → before s bs < length bs → bs ≡ take (before s bs) bs ++ (s ∷ drop (before s bs + 1) bs)
-before-joins s [] h = absurd (omega arith)
-before-joins s (b ∷ bs) h =
-    ⊎-elim
-    (λ e.
-    ap (λ x. x ∷ bs) (eqb-true b s e)
-    ∙ ap (λ k. take k (b ∷ bs) ++ (s ∷ drop (k + 1) (b ∷ bs))) (sym (cond-true (eqb b s) 0 (suc (before s bs)) e)))
-    (λ e.
-    let k = cond-false (eqb b s) 0 (suc (before s bs)) e in
-    let less : suc (before s bs) < suc (length bs) = subst (λ n. n < suc (length bs)) k h in
-    let up : suc (before s bs + 1) ≡ suc (before s bs) + 1 = omega arith in
-    ap (λ l. b ∷ l) (before-joins s bs (omega arith))
-    ∙ ap (λ n. b ∷ (take (before s bs) bs ++ (s ∷ drop n (b ∷ bs)))) up
-    ∙ ap (λ k. take k (b ∷ bs) ++ (s ∷ drop (k + 1) (b ∷ bs))) (sym k))
-    (cases-bool (eqb b s))
 
 both-some : (o p : Option ℕ) (m n : ℕ) → both o p ≡ Some (m, n) → (o ≡ Some m) × (p ≡ Some n)
 both-some None p m n h = absurd (none-some (m, n) h)

@@ -3,18 +3,17 @@ use mathlib.Core.Path.{_≡_, refl, sym, ap, subst, _∙_}
 use mathlib.Core.Bool.{Bool, true, false, cond}
 use mathlib.Core.List.{List, [], _∷_, map}
 use mathlib.Core.Logic.{⊎-elim}
-use Prim.Native.Nat.{ℕ, suc, _+_, _%_, _≤_, _<_}
+use Prim.Native.Nat.{ℕ, _%_}
 use native.Mathlib.Omega.{arith}
 use lib.Chars.{codes}
 use lib.Dec.{eqb, leb}
-use lib.ListN.{length, drop}
+use lib.ListN.{length}
 use Rattle.std.specs.declared.option.Option.{Option}
 use Rattle.std.specs.declared.option.Option.the-variants.{Some, None}
 use Rattle.std.specs.declared.result.Result.{Result}
 use Rattle.std.specs.declared.result.Result.the-variants.{Ok, Err}
 use Rattle.std.specs.shelf.Text.{sameBytes}
 use Rattle.std.proofs.shelf.Equals.{sameBytes-decides}
-use Rattle.std.proofs.shelf.Lists.{length-map}
 use Rattle.std.proofs.shelf.Tests.{eqb-true, leb-true, le-leb, cases-bool, cond-true, cond-false, eq-eqb}
 use Rattle.register.specs.Register.{Refusal}
 use Rattle.apportion.specs.declared.share.Share.{Share}
@@ -23,7 +22,7 @@ use Rattle.model.specs.declared.request.Exchange.{Exchange}
 use Rattle.model.specs.declared.request.Division.{Division}
 use Rattle.reader.specs.declared.pattern.Verb.{Verb}
 use Rattle.reader.specs.declared.pattern.Verb.the-variants.{Post, Conv, Split, Carry, Sweep}
-use Rattle.reader.specs.Kinds.{readPiece, wordsIn}
+use Rattle.reader.specs.Kinds.{readPiece}
 use Rattle.reader.specs.Limits.{mostWords}
 use Rattle.reader.specs.Requests.{Asked, post, convert, split, carry, sweep, andThen, putFirst, numberAt, amountAt, signedAt, currencyAt, shareAt, postingOf, postingsOf, sharesOf, verbOf, readAs, readWords, readLine, unknownPattern}
 use Rattle.reader.specs.Words.{Piece, wordsOf}

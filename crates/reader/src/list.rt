@@ -3,7 +3,7 @@ ghost use mathlib.Core.Path.{_≡_};
 ghost use Rattle.reader.specs.Requests.{listed};
 
 /// A list of at most N items: the first `count` of them.
-#[derive(Clone, Copy)]
+#[derive(Drop)]
 pub struct FixedList<T, const N: usize> {
     pub items: [T; N],
     pub count: usize,

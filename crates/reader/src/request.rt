@@ -15,7 +15,7 @@ pub const MOST_POSTINGS: usize = 16;
 pub const MOST_PAIRS: usize = 45;
 
 /// What a line asks for. Numbers are as the line has them: the book tests them.
-#[derive(Clone, Copy)]
+#[derive(Drop)]
 pub enum Request {
     /// `post`, then account, code and signed amount, repeated.
     Post(FixedList<Posting, MOST_POSTINGS>),

@@ -1,11 +1,11 @@
 -- Assumes nothing.
-use mathlib.Core.Path.{_≡_, ap, sym, _∙_}
+use mathlib.Core.Path.{_≡_, ap}
 use native.Mathlib.Omega.{arith}
 use borrow.Author.Needs.{needs}
 use mir.Val.{toZ, ofZ}
 use mir.Syntax.{w64}
-use lib.IntN.{ℤ, pos, negℤ, _-ℤ_}
-use Rattle.std.proofs.shelf.Signed.{ints, toZ-ofZ}
+use lib.IntN.{pos, negℤ, _-ℤ_}
+use Rattle.std.proofs.shelf.Signed.{ints}
 use Rattle.std.proofs.shelf.Parts.{first-rest}
 use Rattle.std.proofs.shelf.Ways.{tells}
 use Rattle.reader.specs.Numbers.{signedIn}

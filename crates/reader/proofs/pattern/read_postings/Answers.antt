@@ -1,12 +1,11 @@
 -- Assumes nothing.
-use mathlib.Core.Path.{_≡_, refl, sym, ap, _∙_}
+use mathlib.Core.Path.{ap, _∙_}
 use Prim.Native.Nat.{_≤_, _<_}
 use native.Mathlib.Omega.{arith}
 use borrow.Author.Needs.{needs}
 use lib.ListN.{length}
 use Rattle.std.proofs.shelf.Lists.{take-rest, length-drop, length-set}
-use Rattle.std.proofs.shelf.Results.{err-from-errBy}
-use Rattle.reader.proofs.Patterns.{no-word, postings-more, postings-refused, postings-done, postings-cut}
+use Rattle.reader.proofs.Patterns.{no-word, postings-more, postings-done, postings-cut}
 use Rattle.reader.proofs.pattern.read_postings.Needs as need
 
 pub loop-rest-again : need.loop-rest-again

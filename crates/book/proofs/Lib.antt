@@ -1,0 +1,5 @@
+mod Below
+mod Conversions
+mod Drawn
+mod Posts
+mod Splits

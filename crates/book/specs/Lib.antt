@@ -1,0 +1,3 @@
+pub mod Proposals
+pub mod Slips
+pub mod View
