@@ -89,49 +89,56 @@ impl<L: Ledger> Book<L> {
 
     /// What a cell of the ledger holds.
     pub fn cell(&self, account: u64, column: u64) -> i64
-        ensures { λ r. ⌜ r ≡ asked (stateOf L·Balances (now (self .entry))) (cell account column) ⌝ }
+        ensures value { λ r. ⌜ r ≡ asked (stateOf L·Balances (now (self .entry))) (cell account column) ⌝ }
+        ensures law { λ r. ⌜ StillConserved (stateOf L·Balances (now (self .entry))) (ask (cell account column)) (Ok r) (stateOf L·Balances (now (self .entry))) ⌝ }
     {
         self.ledger.cell(account, column)
     }
 
     /// How many more legs the ledger takes.
     pub fn room(&self) -> u64
-        ensures { λ r. ⌜ r ≡ asked (stateOf L·Balances (now (self .entry))) room ⌝ }
+        ensures value { λ r. ⌜ r ≡ asked (stateOf L·Balances (now (self .entry))) room ⌝ }
+        ensures law { λ r. ⌜ StillConserved (stateOf L·Balances (now (self .entry))) (ask room) (Ok r) (stateOf L·Balances (now (self .entry))) ⌝ }
     {
         self.ledger.room()
     }
 
     /// The letter of the ledger's type.
     pub fn kind(&self) -> char
-        ensures { λ r. ⌜ r ≡ asked (stateOf L·Balances (now (self .entry))) kind ⌝ }
+        ensures value { λ r. ⌜ r ≡ asked (stateOf L·Balances (now (self .entry))) kind ⌝ }
+        ensures law { λ r. ⌜ StillConserved (stateOf L·Balances (now (self .entry))) (ask kind) (Ok r) (stateOf L·Balances (now (self .entry))) ⌝ }
     {
         self.ledger.kind_letter()
     }
 
     /// Whether the book was fit when it was opened.
     pub fn fit(&self) -> bool
-        ensures { λ r. ⌜ r ≡ asked (stateOf L·Balances (now (self .entry))) fit ⌝ }
+        ensures value { λ r. ⌜ r ≡ asked (stateOf L·Balances (now (self .entry))) fit ⌝ }
+        ensures law { λ r. ⌜ StillConserved (stateOf L·Balances (now (self .entry))) (ask fit) (Ok r) (stateOf L·Balances (now (self .entry))) ⌝ }
     {
         self.fit
     }
 
     /// The mark that the book's slips bear.
     pub fn mark(&self) -> u32
-        ensures { λ r. ⌜ r ≡ asked (stateOf L·Balances (now (self .entry))) mark ⌝ }
+        ensures value { λ r. ⌜ r ≡ asked (stateOf L·Balances (now (self .entry))) mark ⌝ }
+        ensures law { λ r. ⌜ StillConserved (stateOf L·Balances (now (self .entry))) (ask mark) (Ok r) (stateOf L·Balances (now (self .entry))) ⌝ }
     {
         self.mark
     }
 
     /// How many slips the book has given.
     pub fn given(&self) -> u32
-        ensures { λ r. ⌜ r ≡ asked (stateOf L·Balances (now (self .entry))) given ⌝ }
+        ensures value { λ r. ⌜ r ≡ asked (stateOf L·Balances (now (self .entry))) given ⌝ }
+        ensures law { λ r. ⌜ StillConserved (stateOf L·Balances (now (self .entry))) (ask given) (Ok r) (stateOf L·Balances (now (self .entry))) ⌝ }
     {
         self.given
     }
 
     /// The docket's records, by rising number.
     pub fn records(&self) -> &[Record]
-        ensures { λ r. ⌜ now r ≡ asked (stateOf L·Balances (now (self .entry))) records ⌝ }
+        ensures value { λ r. ⌜ now r ≡ asked (stateOf L·Balances (now (self .entry))) records ⌝ }
+        ensures law { λ r. ⌜ StillConserved (stateOf L·Balances (now (self .entry))) (ask records) (Ok (now r)) (stateOf L·Balances (now (self .entry))) ⌝ }
     {
         self.docket.records()
     }
