@@ -14,4 +14,4 @@ ghost-self c =
 pub returns : need.returns
 returns c =
     let d = c .args .self .now in
-    append-one (d .stored) (d .count) (omega (arith, d .wide, d .within)) (c .args .record) (c .if-self-ge-MOST-RECORDS .left) (omega (arith, d .wide, c .if-self-ge-MOST-RECORDS .left)) (sym (c .if-not-residues-bounded .ensures tt))
+    append-one (d .stored) (d .count) (omega (arith, d .wide, d .within)) (c .args .record) (omega arith) (omega (arith, d .wide)) (sym (c .if-not-residues-bounded .ensures tt))
