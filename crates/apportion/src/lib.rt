@@ -1,4 +1,6 @@
 //! Apportionment by Hamilton's largest remainders, with any tie rule.
+#![tactic(auto)]
+
 mod account;
 mod fraction;
 mod laws;

@@ -1,4 +1,6 @@
 //! The book: it owns a ledger, gives slips for what its conversions leave, and keeps a docket of them.
+#![tactic(auto)]
+
 mod book;
 mod slip;
 

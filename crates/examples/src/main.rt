@@ -1,4 +1,5 @@
 //! Worked examples: real vouchers of the changeover, taken through the engine and printed step by step.
+#![tactic(auto)]
 
 mod books;
 mod heirs;

@@ -1,5 +1,7 @@
 //! The engine for C and plain Rust to link: a conversion, rounds of calls on a book over a sheet, and the two programs'
 //! transcripts. A slice crosses as a pointer and a length.
+#![tactic(auto)]
+
 ghost use Rattle.std.specs.Prelude.{◌≡◌};
 ghost use Rattle.apportion.specs.Ties.{Lawful, by_place};
 ghost use Rattle.model.specs.Calls.{cell};

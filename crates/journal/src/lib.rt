@@ -1,4 +1,6 @@
 //! The journal: a ledger that writes each leg as one record into a list lent to it.
+#![tactic(auto)]
+
 mod journal;
 mod sums;
 

@@ -1,4 +1,6 @@
 //! Entries, and what every ledger means and does with them.
+#![tactic(auto)]
+
 mod balance;
 mod column;
 mod entry;

@@ -1,4 +1,6 @@
 //! What a book does, as definitions, and the law over its whole runs.
+#![tactic(auto)]
+
 mod audit;
 mod laws;
 mod record;

@@ -1,4 +1,6 @@
 //! The arithmetic of money: quantities, currencies, rounding and conversions.
+#![tactic(auto)]
+
 mod conversion;
 mod currency;
 mod laws;

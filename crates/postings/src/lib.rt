@@ -1,4 +1,6 @@
 //! The entries of the book's calls, leg by leg.
+#![tactic(auto)]
+
 mod account;
 mod carry;
 mod conversion;

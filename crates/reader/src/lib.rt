@@ -1,4 +1,6 @@
 //! Bytes to requests: an input is cut into lines, a line into words, and the words are read as a request.
+#![tactic(auto)]
+
 mod laws;
 mod line;
 mod list;

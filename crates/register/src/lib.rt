@@ -1,4 +1,6 @@
 //! The refusal register: why each part of the engine refuses, under which number, and where.
+#![tactic(auto)]
+
 mod cause;
 mod fault;
 mod laws;

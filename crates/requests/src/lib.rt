@@ -1,4 +1,6 @@
 //! What the requests of lines do with a book, and what they answer.
+#![tactic(auto)]
+
 mod laws;
 mod performing;
 mod reply;

@@ -1,4 +1,6 @@
 //! Lines in, transcript out: each line is carried out on a book and answered, and the audit follows.
+#![tactic(auto)]
+
 mod answers;
 mod audit;
 mod text;

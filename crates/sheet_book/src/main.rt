@@ -1,4 +1,6 @@
 //! Runs the lines of its standard input on a book over a sheet, and writes the transcript.
+#![tactic(auto)]
+
 use apportion::SmallerPlace;
 use book::Book;
 use ledger::Ledger;

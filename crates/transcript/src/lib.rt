@@ -1,4 +1,6 @@
 //! The text of every line that the runner writes, byte for byte.
+#![tactic(auto)]
+
 mod answer;
 mod audit;
 
