@@ -10,7 +10,7 @@ use Rattle.apportion.proofs.limits.check.Goals as goal
 pub returns : goal.returns
 returns c =
     let s = c.args.shares.now in
-    let answer : book_answer c.sum-of-weights.result ≡ checked c.args.amount.0 s =
-    c.sum-of-weights.ensures
-    ∙ sym (in_range_lem c.args.amount.0 s (omega (arith, ints)) (omega (arith, ints)) c.if-is-empty.ensures (omega arith)) in
-    record { value = answer; exactly = checks c.args.amount.0 s c.sum-of-weights.result answer }
+    let answer : book_answer c.sum_of_weights.result ≡ checked c.args.amount.0 s =
+    c.sum_of_weights.ensures
+    ∙ sym (in_range_lem c.args.amount.0 s (omega (arith, ints)) (omega (arith, ints)) c.if-is_empty.ensures (omega arith)) in
+    record { value = answer; exactly = checks c.args.amount.0 s c.sum_of_weights.result answer }

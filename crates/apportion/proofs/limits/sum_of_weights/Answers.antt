@@ -10,24 +10,24 @@ use Rattle.apportion.proofs.limits.sum_of_weights.Goals as goal
 refuses : (f g : BookFault) → f ≡ g → book_answer {T = ℕ} (Err f) ≡ book_answer (Err g)
 refuses f g e = ap (λ x. book_answer (Err x)) e
 
-pub returns-then-not-is-named : goal.returns-then-not-is-named
-returns-then-not-is-named c =
+pub returns-then-not-is_named : goal.returns-then-not-is_named
+returns-then-not-is_named c =
     let s = c.args.shares.now in
     refuses _ _ c.refused.ensures
-    ∙ sym (share_unnamed s (some_weight s) c.loop-i.i c.loop-i-test.true (sym c.if-not-is-named.ensures))
+    ∙ sym (share_unnamed s (some_weight s) c.loop-i.i c.loop-i-test.true (sym c.if-not-is_named.ensures))
     ∙ c.loop-i.invariant.0
 
-pub returns-then-share-gt-MOST-WEIGHT : goal.returns-then-share-gt-MOST-WEIGHT
-returns-then-share-gt-MOST-WEIGHT c =
+pub returns-then-share-gt-MOST_WEIGHT : goal.returns-then-share-gt-MOST_WEIGHT
+returns-then-share-gt-MOST_WEIGHT c =
     let s = c.args.shares.now in
-    refuses _ _ c.refused-then-share-gt-MOST-WEIGHT.ensures
-    ∙ sym (share_heavy s (some_weight s) c.loop-i.i c.loop-i-test.true (sym c.if-not-is-named.ensures) c.if-share-gt-MOST-WEIGHT.true)
+    refuses _ _ c.refused-then-share-gt-MOST_WEIGHT.ensures
+    ∙ sym (share_heavy s (some_weight s) c.loop-i.i c.loop-i-test.true (sym c.if-not-is_named.ensures) c.if-share-gt-MOST_WEIGHT.true)
     ∙ c.loop-i.invariant.0
 
 pub loop-i-preserved : goal.loop-i-preserved
 loop-i-preserved c =
     let s = c.args.shares.now in (
-      sym (share_passes s (some_weight s) c.loop-i.i c.loop-i-test.true (sym c.if-not-is-named.ensures) c.if-share-gt-MOST-WEIGHT.false) ∙ c.loop-i.invariant.0,
+      sym (share_passes s (some_weight s) c.loop-i.i c.loop-i-test.true (sym c.if-not-is_named.ensures) c.if-share-gt-MOST_WEIGHT.false) ∙ c.loop-i.invariant.0,
       omega (arith, sum_more (weight_at s) c.loop-i.i, c.loop-i.invariant.1),
       omega (arith, c.loop-i.invariant.2),
     )

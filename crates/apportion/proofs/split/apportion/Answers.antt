@@ -14,7 +14,7 @@ fill-requires g c =
     let z = c.args.amount.0 in
     let fits : SFits w64 z = search rules in
     record {
-      divisible = rw (to_z-of_z w64 z fits) (divisible z c.args.shares.now c.in-ok-weights.weights (sym c.in-ok-weights.ensures.value)).1;
+      divisible = rw (to_z-of_z w64 z fits) (divisible z c.args.shares.now c.in_ok-weights.weights (sym c.in_ok-weights.ensures.value)).1;
       portions = omega arith;
       fractions = omega arith;
     }
@@ -26,7 +26,7 @@ returns g c =
     let tie = g.R.TieRule.tie c.args.rule.now in
     let law : Lawful tie = g.met.R.TieRule.lawful c.args.rule.now in
     let fits : SFits w64 z = search rules in
-    let ok = divisible z s c.in-ok-weights.weights (sym c.in-ok-weights.ensures.value) in
+    let ok = divisible z s c.in_ok-weights.weights (sym c.in_ok-weights.ensures.value) in
     let given = c.fill.ensures.portions ∙ ap (λ a. over (portions tie (nat_abs a) s) c.args.portions.now) (to_z-of_z w64 z fits) in
     let owed = c.fill.ensures.fractions ∙ ap (λ a. over (fractions tie (nat_abs a) s) c.args.fractions.now) (to_z-of_z w64 z fits) in
     record {

@@ -9,11 +9,11 @@ loop-column-init g c = below_none (clear_at (g.L.Balances.meaning c.args.ledger.
 
 pub loop-column-preserved : goal.loop-column-preserved
 loop-column-preserved g c =
-    below_more (clear_at (g.L.Balances.meaning c.args.ledger.now)) c.loop-column.column c.loop-column.invariant (sym c.if-not-is-clear-at.ensures)
+    below_more (clear_at (g.L.Balances.meaning c.args.ledger.now)) c.loop-column.column c.loop-column.invariant (sym c.if-not-is_clear_at.ensures)
 
-pub returns-then-not-is-clear-at : goal.returns-then-not-is-clear-at
-returns-then-not-is-clear-at g c =
-    sym (below_not (clear_at (g.L.Balances.meaning c.args.ledger.now)) _ c.loop-column.column c.loop-column-test.true (sym c.if-not-is-clear-at.ensures))
+pub returns-then-not-is_clear_at : goal.returns-then-not-is_clear_at
+returns-then-not-is_clear_at g c =
+    sym (below_not (clear_at (g.L.Balances.meaning c.args.ledger.now)) _ c.loop-column.column c.loop-column-test.true (sym c.if-not-is_clear_at.ensures))
 
 pub returns : goal.returns
 returns g c = sym c.loop-column.invariant ∙ ap (all_below (clear_at (g.L.Balances.meaning c.args.ledger.now))) (omega arith)

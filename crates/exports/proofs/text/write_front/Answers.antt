@@ -4,4 +4,4 @@ use Rattle.exports.proofs.text.write_front.Goals as goal
 
 pub returns : goal.returns
 returns c =
-    front_written c.args.text.now c.args.list.now _ _ c.min-count.ensures c.copy-from-slice.ensures.after
+    front_written c.args.text.now c.args.list.now _ _ c.min-count.ensures c.copy_from_slice.ensures.after

@@ -7,7 +7,7 @@ use Rattle.journal.proofs.sums.recorded.Goals as goal
 
 pub loop-leg-preserved : goal.loop-leg-preserved
 loop-leg-preserved c = (
-  omega (arith, ints, c.in-record-sum.ensures.value, c.in-record-sum.ensures.bound, left-more c.args.records.now c.loop-leg.leg-index (leg 0 0 (pos 0)) c.args.account c.args.column c.loop-leg-test.true),
+  omega (arith, ints, c.in_record-sum.ensures.value, c.in_record-sum.ensures.bound, left-more c.args.records.now c.loop-leg.leg-index (leg 0 0 (pos 0)) c.args.account c.args.column c.loop-leg-test.true),
   omega (arith, ints),
 )
 

@@ -9,7 +9,7 @@ use Rattle.journal.specs.Journal.{recorded}
 use Rattle.journal.proofs.Records.{elsewhere, no_leg}
 use Rattle.journal.proofs.Rows.{Row, in_range_lem, row_none, row_same, row_more, row-all}
 use Rattle.journal.proofs.sums.recorded_row.Goals as goal
-use Rattle.journal.proofs.sums.recorded_row.Goals.{then-leg-account+then-is-leg, else-leg-account, else-leg-account-via-then-leg-account+else-is-leg, else-leg-account-via-else-leg-account}
+use Rattle.journal.proofs.sums.recorded_row.Goals.{then-leg-account+then-is_leg, else-leg-account, else-leg-account-via-then-leg-account+else-is_leg, else-leg-account-via-else-leg-account}
 
 pub loop-leg-init : goal.loop-leg-init
 loop-leg-init c = row_none c.args.records.now c.args.account
@@ -22,8 +22,8 @@ loop-leg-preserved c =
     let blank = leg 0 0 (pos 0) in
     let l = get_or rs i blank in
     elim c.if-leg-account.branch [
-      | then-leg-account+then-is-leg w ↦
-          let is : in_range l ≡ true = sym w.if-is-leg.ensures in
+      | then-leg-account+then-is_leg w ↦
+          let is : in_range l ≡ true = sym w.if-is_leg.ensures in
           let r = in_range_lem l is in
           let held = c.loop-leg.invariant.small l.column (omega (arith, r.column)) in
           subst (λ (row : List ℤ). Row rs a (i + 1) row)
@@ -33,7 +33,7 @@ loop-leg-preserved c =
           subst (λ (row : List ℤ). Row rs a (i + 1) row) (sym w.row-is)
           (row_same rs a i blank c.loop-leg.row c.loop-leg-test.true c.loop-leg.invariant
           (λ k. elim w.else-leg-account.branch [
-            | else-leg-account-via-then-leg-account+else-is-leg v ↦ no_leg l a k (sym v.if-is-leg.ensures)
+            | else-leg-account-via-then-leg-account+else-is_leg v ↦ no_leg l a k (sym v.if-is_leg.ensures)
             | else-leg-account-via-else-leg-account v ↦ elsewhere l a k (in_cell_off l a k v.if-leg-account.false)
           ]))
     ]

@@ -3,10 +3,10 @@ use Rattle.std.proofs.Common.{rules}
 use Rattle.ledger.specs.Entries.{is_entry}
 use Rattle.ledger.proofs.balance.is_entry.Goals as goal
 
-pub returns-then-all-in-range : goal.returns-then-all-in-range
+pub returns-then-all_in_range : goal.returns-then-all_in_range
 unfolding is_entry
-returns-then-all-in-range c = search rules
+returns-then-all_in_range c = search rules
 
-pub returns-else-all-in-range : goal.returns-else-all-in-range
+pub returns-else-all_in_range : goal.returns-else-all_in_range
 unfolding is_entry
-returns-else-all-in-range c = search rules
+returns-else-all_in_range c = search rules

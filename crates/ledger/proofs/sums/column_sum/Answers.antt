@@ -8,10 +8,10 @@ use Rattle.ledger.proofs.sums.column_sum.Goals as goal
 pub loop-leg-preserved : goal.loop-leg-preserved
 loop-leg-preserved c =
     let i = c.loop-leg.leg-index in
-    let x = c.in-column.result in
+    let x = c.in_column.result in
     let few : i + 1 < 2 ^ 64 = omega arith in
     let first = column_left_more c.args.legs.now i (leg 0 0 (pos 0)) c.args.column c.loop-leg-test.true in
-    added _ x i c.in-column.type-inv c.loop-leg.invariant.1 few _ _ _ _ c.in-column.ensures first c.loop-leg.invariant.0
+    added _ x i c.in_column.type_inv c.loop-leg.invariant.1 few _ _ _ _ c.in_column.ensures first c.loop-leg.invariant.0
 
 pub returns : goal.returns
 returns c = record {

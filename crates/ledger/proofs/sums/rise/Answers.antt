@@ -8,10 +8,10 @@ use Rattle.ledger.proofs.sums.rise.Goals as goal
 pub loop-leg-preserved : goal.loop-leg-preserved
 loop-leg-preserved c =
     let i = c.loop-leg.leg-index in
-    let x = c.in-cell.result in
+    let x = c.in_cell.result in
     let few : i + 1 < 2 ^ 64 = omega arith in
     let first = rise-left_more c.args.legs.now i (leg 0 0 (pos 0)) c.args.account c.args.column c.loop-leg-test.true in
-    added _ x i c.in-cell.type-inv c.loop-leg.invariant.1 few _ _ _ _ c.in-cell.ensures first c.loop-leg.invariant.0
+    added _ x i c.in_cell.type_inv c.loop-leg.invariant.1 few _ _ _ _ c.in_cell.ensures first c.loop-leg.invariant.0
 
 pub returns : goal.returns
 returns c = record {

@@ -22,9 +22,9 @@ told g c =
     let part : take (c.loop-i.i + 1 - 0) ls ≡ take (c.loop-i.i + 1) ls = ap (λ n. take n ls) (omega arith) in
     let up : c.rise.result ≡ rise (take (c.loop-i.i + 1) ls) l.account l.column = c.rise.ensures.value ∙ ap (λ xs. rise xs l.account l.column) part in
     let few : length (take (c.loop-i.i + 1 - 0) ls) ≤ most_legs = simp length-take (omega (arith, c.legs-legs.ensures.lawful.few)) in
-    let next = sum_back c.cell.result c.rise.result _ c.cell.type-inv c.rise.ensures.bound few ∙ (λ i. c.cell.ensures.value i +ℤ up i) in
-    let low : to_z w64 (of_z w64 c.floor.result) ≡ m.floor l.account l.column = read_back c.floor.result c.floor.type-inv ∙ c.floor.ensures.value in
-    let high : to_z w64 (of_z w64 c.ceiling.result) ≡ m.ceiling l.account l.column = read_back c.ceiling.result c.ceiling.type-inv ∙ c.ceiling.ensures.value in
+    let next = sum_back c.cell.result c.rise.result _ c.cell.type_inv c.rise.ensures.bound few ∙ (λ i. c.cell.ensures.value i +ℤ up i) in
+    let low : to_z w64 (of_z w64 c.floor.result) ≡ m.floor l.account l.column = read_back c.floor.result c.floor.type_inv ∙ c.floor.ensures.value in
+    let high : to_z w64 (of_z w64 c.ceiling.result) ≡ m.ceiling l.account l.column = read_back c.ceiling.result c.ceiling.type_inv ∙ c.ceiling.ensures.value in
     sym (c.within.ensures ∙ (λ i. le_z (low i) (next i) && le_z (next i) (high i)))
 
 pub returns-then-room-legs : goal.returns-then-room-legs

@@ -8,5 +8,5 @@ use Rattle.postings.proofs.carry.carry_entry.Goals as goal
 pub returns : goal.returns
 returns c =
     c.entry.ensures
-    ∙ ap entry_in (c.with-residues.ensures ∙ ap (λ o. with_legs o (carry_legs c.args.docketed c.args.account)) c.new.ensures)
+    ∙ ap entry_in (c.with_residues.ensures ∙ ap (λ o. with_legs o (carry_legs c.args.docketed c.args.account)) c.new.ensures)
     ∙ drawn_up (carry_legs c.args.docketed c.args.account)

@@ -12,8 +12,8 @@ pub returns : goal.returns
 returns c =
     let x = c.args.exchange in
     c.entry.ensures
-    ∙ drawn_three (drawn c.new.result) (drawn c.with-money.result) (drawn c.with-money-2.result) (drawn c.with-residues.result)
+    ∙ drawn_three (drawn c.new.result) (drawn c.with_money.result) (drawn c.with_money-2.result) (drawn c.with_residues.result)
     (transfer x.from exchange_account (number_of c.args.from) x.amount.0)
     (transfer exchange_account x.to (number_of c.args.to) c.args.booked.0)
     (transfers exchange_account docket_account (residues_of c.args.docketed))
-    c.new.ensures c.with-money.ensures c.with-money-2.ensures c.with-residues.ensures
+    c.new.ensures c.with_money.ensures c.with_money-2.ensures c.with_residues.ensures

@@ -14,14 +14,14 @@ returns c =
     let e : c.loop-currency.currency-index ≡ 12 = omega arith in
     sym (c.loop-currency.invariant ∙ ap (unbalanced_from c.args.legs.now) e ∙ unbalanced-end c.args.legs.now)
 
-pub returns-then-column-sum-ne0 : goal.returns-then-column-sum-ne0
-returns-then-column-sum-ne0 c =
+pub returns-then-column_sum-ne0 : goal.returns-then-column_sum-ne0
+returns-then-column_sum-ne0 c =
     let ls = c.args.legs.now in
     sym (c.loop-currency.invariant ∙ unbalanced_here ls c.loop-currency.currency-index _ (omega arith) refl
-    (λ z. c.if-column-sum-ne0.true (ap (of_z w128) (c.column-sum.ensures.value ∙ ap (column_sum ls) c.number.ensures ∙ z))))
+    (λ z. c.if-column_sum-ne0.true (ap (of_z w128) (c.column_sum.ensures.value ∙ ap (column_sum ls) c.number.ensures ∙ z))))
 
 pub loop-currency-preserved : goal.loop-currency-preserved
 loop-currency-preserved c =
     let ls = c.args.legs.now in
     c.loop-currency.invariant ∙ unbalanced-more ls c.loop-currency.currency-index _ (omega arith) refl
-    (sym (c.column-sum.ensures.value ∙ ap (column_sum ls) c.number.ensures) ∙ sym (to_z-of_z w128 c.column-sum.result (record { sfits = c.column-sum.type-inv })) ∙ ap (to_z w128) c.if-column-sum-ne0.false)
+    (sym (c.column_sum.ensures.value ∙ ap (column_sum ls) c.number.ensures) ∙ sym (to_z-of_z w128 c.column_sum.result (record { sfits = c.column_sum.type_inv })) ∙ ap (to_z w128) c.if-column_sum-ne0.false)

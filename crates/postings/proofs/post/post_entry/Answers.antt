@@ -11,15 +11,15 @@ use Rattle.postings.proofs.post.post_entry.Goals as goal
 use Rattle.postings.proofs.post.post_entry.Goals.{In-ok-legs}
 
 -- the legs that were read
-read : (c : In-ok-legs) → posted_legs 1 c.args.postings.now ≡ Ok (take (length c.args.postings.now - 0) c.in-ok-legs.legs)
+read : (c : In-ok-legs) → posted_legs 1 c.args.postings.now ≡ Ok (take (length c.args.postings.now - 0) c.in_ok-legs.legs)
 read c =
     let n : length c.args.postings.now ≡ length c.args.postings.now - 0 = omega arith in
-    sym c.in-ok-legs.ensures ∙ ap (λ k. Ok (take k c.in-ok-legs.legs)) n
+    sym c.in_ok-legs.ensures ∙ ap (λ k. Ok (take k c.in_ok-legs.legs)) n
 
 pub returns-in-Some : goal.returns-in-Some
 returns-in-Some c =
     let ps = c.args.postings.now in
-    let ls = take (length ps - 0) c.in-ok-legs.legs in
+    let ls = take (length ps - 0) c.in_ok-legs.legs in
     ap (λ f. Err (by_book (book_number f.cause) f.place)) c.refused-in-Some.ensures
     ∙ ap (λ k. Err (by_book 7 k)) c.number.ensures
     ∙ sym (posted_read ps ls (Some c.in-Some.currency) (omega arith) (omega arith) (read (goal.at.returns-in-Some c).In-ok-legs) (sym c.in-Some.ensures))
@@ -27,19 +27,19 @@ returns-in-Some c =
 pub returns : goal.returns
 returns c =
     let ps = c.args.postings.now in
-    let ls = take (length ps - 0) c.in-ok-legs.legs in
+    let ls = take (length ps - 0) c.in_ok-legs.legs in
     let few : length ps ≤ most_legs = omega arith in
     let e = read (goal.at.returns c).In-ok-legs in
-    let none = sym c.in-default.ensures in
+    let none = sym c.in_default.ensures in
     ap Ok (c.make.ensures.holds ∙ cond-true _ _ _ (c.make.ensures.value ∙ legs_entry ls (read_entry ps ls few e none)))
     ∙ sym (posted_read ps ls None (omega arith) few e none)
 
-pub returns-then-postings-lt-LEAST-LEGS : goal.returns-then-postings-lt-LEAST-LEGS
-returns-then-postings-lt-LEAST-LEGS c =
+pub returns-then-postings-lt-LEAST_LEGS : goal.returns-then-postings-lt-LEAST_LEGS
+returns-then-postings-lt-LEAST_LEGS c =
     ap (λ f. Err (by_book (book_number f.cause) f.place)) c.refused.ensures
-    ∙ sym (posted_uncounted c.args.postings.now (⊎_elim inl (λ p. inr p.1) c.then-postings-lt-LEAST-LEGS.either))
+    ∙ sym (posted_uncounted c.args.postings.now (⊎_elim inl (λ p. inr p.1) c.then-postings-lt-LEAST_LEGS.either))
 
-pub returns-in-err-legs : goal.returns-in-err-legs
-returns-in-err-legs c =
+pub returns-in_err-legs : goal.returns-in_err-legs
+returns-in_err-legs c =
     let p = err_from_is_err_and c.from-residual.result c.from-residual.ensures.1 in
-    rw (p.1, p.2) (sym (posted_unread c.args.postings.now _ (omega arith) (omega arith) (sym c.in-err-legs.ensures)))
+    rw (p.1, p.2) (sym (posted_unread c.args.postings.now _ (omega arith) (omega arith) (sym c.in_err-legs.ensures)))

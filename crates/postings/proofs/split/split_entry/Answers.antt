@@ -16,7 +16,7 @@ loop-i-preserved c =
     let ss = c.args.shares.now in
     let ps = c.args.portions.now in
     let rest = portion_legs k (drop (i + 1) ss) (drop (i + 1) ps) in
-    ap (λ o. with_legs o rest) (c.with-leg-draft-in-loop-i.ensures ∙ ap (with_leg (drawn c.loop-i.draft)) (leg_same _ _ _ _ _ refl (omega (arith, ints))))
+    ap (λ o. with_legs o rest) (c.with_leg-draft-in-loop-i.ensures ∙ ap (with_leg (drawn c.loop-i.draft)) (leg_same _ _ _ _ _ refl (omega (arith, ints))))
     ∙ sym (ap (with_legs (drawn c.loop-i.draft)) (portions-more k ss ps i (omega arith) (omega arith)))
     ∙ c.loop-i.invariant
 
@@ -36,7 +36,7 @@ returns c =
     ∙ ap entry_in (
     sym (ap (with_legs (drawn c.loop-i.draft)) none)
     ∙ c.loop-i.invariant
-    ∙ ap (λ o. with_legs o (portion_legs k ss ps)) (drawn_first (drawn c.new.result) (drawn c.with-leg-draft.result) (leg d.account k (neg_ℤ d.amount.0)) _ c.new.ensures c.with-leg-draft.ensures (leg_same _ _ _ _ _ refl (omega (arith, ints))))
+    ∙ ap (λ o. with_legs o (portion_legs k ss ps)) (drawn_first (drawn c.new.result) (drawn c.with_leg-draft.result) (leg d.account k (neg_ℤ d.amount.0)) _ c.new.ensures c.with_leg-draft.ensures (leg_same _ _ _ _ _ refl (omega (arith, ints))))
     )
     ∙ drawn_up (leg d.account k (neg_ℤ d.amount.0) ∷ portion_legs k ss ps)
     ∙ ap (λ n. entry_legs (leg d.account n (neg_ℤ d.amount.0) ∷ portion_legs n ss ps)) c.number-column.ensures

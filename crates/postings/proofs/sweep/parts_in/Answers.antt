@@ -14,10 +14,10 @@ factors c =
     let b : to_z w128 c.parts.result ≡ pos (whole_parts c.args.column) = omega (arith, ints, c.parts.ensures, parts-small c.args.column) in
     λ i. a i *ℤ b i
 
-pub overflow-mul-result : goal.overflow-mul-result
-overflow-mul-result c =
+pub overflow_mul-result : goal.overflow_mul-result
+overflow_mul-result c =
     let f : SFits w64 c.args.units.0 = search rules in
-    subst (SFits w128) (sym (factors (goal.at.overflow-mul-result c).After-parts)) (product_fits c.args.units.0 (whole_parts c.args.column) f (parts-small c.args.column).1)
+    subst (SFits w128) (sym (factors (goal.at.overflow_mul-result c).After-parts)) (product_fits c.args.units.0 (whole_parts c.args.column) f (parts-small c.args.column).1)
 
 pub returns : goal.returns
 returns c =

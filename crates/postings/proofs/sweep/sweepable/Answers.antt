@@ -19,10 +19,10 @@ whole c = quot_back c.args.cell c.parts.result (whole_parts c.args.column) c.ran
 answered : (c : After-parts) (q : ℤ) → q ≡ sweepable c.args.column c.args.cell → Swept c.args.column c.args.cell q
 answered c q e = subst (Swept c.args.column c.args.cell) (sym e) (swept c.args.column c.args.cell)
 
-pub returns-then-whole-gt-MOST-SWEPT : goal.returns-then-whole-gt-MOST-SWEPT
-returns-then-whole-gt-MOST-SWEPT c =
-    let a = (goal.at.returns-then-whole-gt-MOST-SWEPT c).After-parts in
-    let e = sym (ap (within most_swept) (sym (whole a)) ∙ within_above (cut a) c.if-whole-gt-MOST-SWEPT.true) in
+pub returns-then-whole-gt-MOST_SWEPT : goal.returns-then-whole-gt-MOST_SWEPT
+returns-then-whole-gt-MOST_SWEPT c =
+    let a = (goal.at.returns-then-whole-gt-MOST_SWEPT c).After-parts in
+    let e = sym (ap (within most_swept) (sym (whole a)) ∙ within_above (cut a) c.if-whole-gt-MOST_SWEPT.true) in
     record { value = e; swept = answered a _ e }
 
 pub returns-then-whole : goal.returns-then-whole
@@ -34,5 +34,5 @@ returns-then-whole c =
 pub returns-else-whole : goal.returns-else-whole
 returns-else-whole c =
     let a = (goal.at.returns-else-whole c).After-parts in
-    let e = sym (ap (within most_swept) (sym (whole a)) ∙ within_itself (cut a) c.if-whole-gt-MOST-SWEPT.false c.if-whole.false) in
+    let e = sym (ap (within most_swept) (sym (whole a)) ∙ within_itself (cut a) c.if-whole-gt-MOST_SWEPT.false c.if-whole.false) in
     record { value = e; swept = answered a _ e }

@@ -6,14 +6,14 @@ use Rattle.std.proofs.lemmas.Bool.Decides.{nat_tests}
 use Rattle.reader.specs.Numbers.{signed_in}
 use Rattle.reader.proofs.number.signed.Goals as goal
 
-pub overflow-cast-result : goal.overflow-cast-result
-overflow-cast-result c = omega (arith, ints, c.in-Some.ensures.small)
+pub overflow_cast-result : goal.overflow_cast-result
+overflow_cast-result c = omega (arith, ints, c.in-Some.ensures.small)
 
-pub overflow-cast-result-in-Some-number : goal.overflow-cast-result-in-Some-number
-overflow-cast-result-in-Some-number c = omega (arith, ints, c.in-Some-number.ensures.small)
+pub overflow_cast-result-in-Some-number : goal.overflow_cast-result-in-Some-number
+overflow_cast-result-in-Some-number c = omega (arith, ints, c.in-Some-number.ensures.small)
 
-pub overflow-sub-result : goal.overflow-sub-result
-overflow-sub-result c = omega (arith, ints, c.in-Some-number.ensures.small)
+pub overflow_sub-result : goal.overflow_sub-result
+overflow_sub-result c = omega (arith, ints, c.in-Some-number.ensures.small)
 
 pub returns-in-Some : goal.returns-in-Some
 returns-in-Some c =

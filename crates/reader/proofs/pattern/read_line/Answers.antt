@@ -9,17 +9,17 @@ use Rattle.reader.proofs.pattern.read_line.Goals as goal
 pub returns : goal.returns
 returns c =
     let is =
-    c.read-words.ensures
-    ∙ line_read c.args.line.now (replicate most_words (Name 0 c.args.line)) _ _ refl c.split-words-count.ensures.count c.if-count-gt-MOST-WORDS.false c.split-words-count.ensures.written in
+    c.read_words.ensures
+    ∙ line_read c.args.line.now (replicate most_words (Name 0 c.args.line)) _ _ refl c.split_words-count.ensures.count c.if-count-gt-MOST_WORDS.false c.split_words-count.ensures.written in
     record { value = is; answers = line_answered c.args.line.now _ is }
 
-pub returns-then-count-gt-MOST-WORDS : goal.returns-then-count-gt-MOST-WORDS
-returns-then-count-gt-MOST-WORDS c =
-    let is = line_long c.args.line.now (omega (arith, c.split-words-count.ensures.count)) in
-    record { value = rw c.unknown-pattern.ensures is; answers = rw c.unknown-pattern.ensures (line_answered c.args.line.now _ is) }
+pub returns-then-count-gt-MOST_WORDS : goal.returns-then-count-gt-MOST_WORDS
+returns-then-count-gt-MOST_WORDS c =
+    let is = line_long c.args.line.now (omega (arith, c.split_words-count.ensures.count)) in
+    record { value = rw c.unknown_pattern.ensures is; answers = rw c.unknown_pattern.ensures (line_answered c.args.line.now _ is) }
 
-pub read-words-requires : goal.read-words-requires
-read-words-requires c = record {
+pub read_words-requires : goal.read_words-requires
+read_words-requires c = record {
   few = search rules;
-  readable = line_readable c.args.line.now (replicate most_words (Name 0 c.args.line)) _ _ refl c.split-words-count.ensures.count c.if-count-gt-MOST-WORDS.false c.split-words-count.ensures.written;
+  readable = line_readable c.args.line.now (replicate most_words (Name 0 c.args.line)) _ _ refl c.split_words-count.ensures.count c.if-count-gt-MOST_WORDS.false c.split_words-count.ensures.written;
 }

@@ -5,15 +5,15 @@ use Rattle.std.proofs.lemmas.Result.{err_from_is_err_and}
 use Rattle.reader.proofs.Patterns.{no_word, shares_more, shares_refused, shares_done}
 use Rattle.reader.proofs.pattern.read_shares.Goals as goal
 
-pub returns-in-err-items : goal.returns-in-err-items
-returns-in-err-items c =
+pub returns-in_err-items : goal.returns-in_err-items
+returns-in_err-items c =
     let p = err_from_is_err_and c.from-residual.result c.from-residual.ensures.1 in
-    rw (p.1, p.2) (shares_refused c.args.words.now no_word _ _ _ c.loop-i.invariant.1 _ c.loop-i-test.true c.in-err-items.ensures)
+    rw (p.1, p.2) (shares_refused c.args.words.now no_word _ _ _ c.loop-i.invariant.1 _ c.loop-i-test.true c.in_err-items.ensures)
 
 pub loop-i-preserved : goal.loop-i-preserved
 loop-i-preserved c = (
   length-set _ _ _ ∙ c.loop-i.invariant.0,
-  shares_more c.args.words.now no_word _ _ _ c.loop-i.invariant.1 _ c.loop-i-test.true (omega arith) c.in-ok-items.ensures,
+  shares_more c.args.words.now no_word _ _ _ c.loop-i.invariant.1 _ c.loop-i-test.true (omega arith) c.in_ok-items.ensures,
 )
 
 pub returns : goal.returns

@@ -7,24 +7,24 @@ use Rattle.reader.specs.Requests.{read_words}
 use Rattle.reader.proofs.Patterns.{no_word, words_are, rest_readable}
 use Rattle.reader.proofs.pattern.read_words.Goals as goal
 
-pub returns-in-default : goal.returns-in-default
-returns-in-default c =
+pub returns-in_default : goal.returns-in_default
+returns-in_default c =
     let none : length c.args.words.now ≡ 0 = search rules in
     sym (ap (λ l. read_words (map view l)) (nil_from_length _ none))
 
-pub returns-in-err-request : goal.returns-in-err-request
-returns-in-err-request c =
+pub returns-in_err-request : goal.returns-in_err-request
+returns-in_err-request c =
     let p = err_from_is_err_and c.from-residual.result c.from-residual.ensures.1 in
     let some : 1 ≤ length c.args.words.now = search rules in
-    rw (p.1, p.2, words_are _ no_word some, ← c.text.ensures, ← c.read-verb.ensures, ← c.in-err-request.ensures)
+    rw (p.1, p.2, words_are _ no_word some, ← c.text.ensures, ← c.read_verb.ensures, ← c.in_err-request.ensures)
 
 pub returns : goal.returns
 returns c =
     let some : 1 ≤ length c.args.words.now = search rules in
-    rw (words_are _ no_word some, ← c.text.ensures, ← c.read-verb.ensures, ← c.in-ok-request.ensures)
+    rw (words_are _ no_word some, ← c.text.ensures, ← c.read_verb.ensures, ← c.in_ok-request.ensures)
 
-pub read-as-requires : goal.read-as-requires
-read-as-requires c =
+pub read_as-requires : goal.read_as-requires
+read_as-requires c =
     let some : 1 ≤ length c.args.words.now = search rules in
     let left = ap length (take_rest c.args.words.now 1) ∙ length-drop 1 c.args.words.now in
     record { few = omega (arith, left, some, c.requires.few); readable = rest_readable c.args.words.now 1 c.requires.readable }

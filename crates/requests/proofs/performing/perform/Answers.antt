@@ -13,15 +13,15 @@ use Rattle.requests.specs.Requests.{ruled, request_calls, performed}
 use Rattle.requests.proofs.Sequences.{answered, one_call}
 use Rattle.requests.proofs.performing.perform.Goals as goal
 
-pub returns-in-err-post : goal.returns-in-err-post
-returns-in-err-post g c =
+pub returns-in_err-post : goal.returns-in_err-post
+returns-in_err-post g c =
     let s = state_of g.L.Balances c.args.book.now in
     let t = state_of g.L.Balances c.post.new.self in
     let tie = g.R.TieRule.tie c.args.rule.now in
     let p = err_from_is_err_and c.from-residual.result c.from-residual.ensures.1 in
-    let legs = c.as-slice.result.now in
-    let e = c.in-err-post.ensures.step in
-    let q : post legs ≡ asked c.args.request.now = ap post c.as-slice.ensures ∙ sym (ap asked c.in-Post.is) in
+    let legs = c.as_slice.result.now in
+    let e = c.in_err-post.ensures.step in
+    let q : post legs ≡ asked c.args.request.now = ap post c.as_slice.ensures ∙ sym (ap asked c.in-Post.is) in
     let state : (law : Lawful tie) → t ≡ after s (request_calls (ruled law) s (asked c.args.request.now)) = λ law. one_call s (calls.post legs) _ t e ∙ ap (λ (a : Asked). after s (request_calls (ruled law) s a)) q in
     rw (p.1, p.2) (record {
       value = λ law. ap (λ (r : Result (Unit {0}) Refusal). given_by {B = List ℤ} (λ done. []) r) (answered s (calls.post legs) _ t e) ∙ ap (performed (ruled law) s) q;
@@ -29,14 +29,14 @@ returns-in-err-post g c =
       law = λ law. conserved_through s _ t (state law);
     })
 
-pub returns-in-ok-post : goal.returns-in-ok-post
-returns-in-ok-post g c =
+pub returns-in_ok-post : goal.returns-in_ok-post
+returns-in_ok-post g c =
     let s = state_of g.L.Balances c.args.book.now in
     let t = state_of g.L.Balances c.post.new.self in
     let tie = g.R.TieRule.tie c.args.rule.now in
-    let legs = c.as-slice.result.now in
-    let e = c.in-ok-post.ensures.step in
-    let q : post legs ≡ asked c.args.request.now = ap post c.as-slice.ensures ∙ sym (ap asked c.in-Post.is) in
+    let legs = c.as_slice.result.now in
+    let e = c.in_ok-post.ensures.step in
+    let q : post legs ≡ asked c.args.request.now = ap post c.as_slice.ensures ∙ sym (ap asked c.in-Post.is) in
     let state : (law : Lawful tie) → t ≡ after s (request_calls (ruled law) s (asked c.args.request.now)) = λ law. one_call s (calls.post legs) _ t e ∙ ap (λ (a : Asked). after s (request_calls (ruled law) s a)) q in
     record {
       value = λ law. ap (λ (r : Result (Unit {0}) Refusal). given_by {B = List ℤ} (λ done. []) r) (answered s (calls.post legs) _ t e) ∙ ap (performed (ruled law) s) q;
@@ -44,15 +44,15 @@ returns-in-ok-post g c =
       law = λ law. conserved_through s _ t (state law);
     }
 
-pub returns-in-err-moved : goal.returns-in-err-moved
-returns-in-err-moved g c =
+pub returns-in_err-moved : goal.returns-in_err-moved
+returns-in_err-moved g c =
     let s = state_of g.L.Balances c.args.book.now in
     let t = state_of g.L.Balances c.sweep.new.self in
     let tie = g.R.TieRule.tie c.args.rule.now in
-    let p = err_from_is_err_and c.from-residual-in-err-moved.result c.from-residual-in-err-moved.ensures.1 in
+    let p = err_from_is_err_and c.from-residual-in_err-moved.result c.from-residual-in_err-moved.ensures.1 in
     let account = c.in-Sweep.account in
     let column = c.in-Sweep.column in
-    let e = c.in-err-moved.ensures.step in
+    let e = c.in_err-moved.ensures.step in
     let q : sweep account column ≡ asked c.args.request.now = sym (ap asked c.in-Sweep.is) in
     let state : (law : Lawful tie) → t ≡ after s (request_calls (ruled law) s (asked c.args.request.now)) = λ law. one_call s (calls.sweep account column) _ t e ∙ ap (λ (a : Asked). after s (request_calls (ruled law) s a)) q in
     rw (p.1, p.2) (record {
@@ -61,14 +61,14 @@ returns-in-err-moved g c =
       law = λ law. conserved_through s _ t (state law);
     })
 
-pub returns-in-ok-moved : goal.returns-in-ok-moved
-returns-in-ok-moved g c =
+pub returns-in_ok-moved : goal.returns-in_ok-moved
+returns-in_ok-moved g c =
     let s = state_of g.L.Balances c.args.book.now in
     let t = state_of g.L.Balances c.sweep.new.self in
     let tie = g.R.TieRule.tie c.args.rule.now in
     let account = c.in-Sweep.account in
     let column = c.in-Sweep.column in
-    let e = c.in-ok-moved.ensures.step in
+    let e = c.in_ok-moved.ensures.step in
     let q : sweep account column ≡ asked c.args.request.now = sym (ap asked c.in-Sweep.is) in
     let state : (law : Lawful tie) → t ≡ after s (request_calls (ruled law) s (asked c.args.request.now)) = λ law. one_call s (calls.sweep account column) _ t e ∙ ap (λ (a : Asked). after s (request_calls (ruled law) s a)) q in
     record {
@@ -80,11 +80,11 @@ returns-in-ok-moved g c =
 pub returns-in-Split : goal.returns-in-Split
 returns-in-Split g c =
     let s = state_of g.L.Balances c.args.book.now in
-    let t = state_of g.L.Balances c.split-among.new.book in
+    let t = state_of g.L.Balances c.split_among.new.book in
     let tie = g.R.TieRule.tie c.args.rule.now in
-    let facts = c.split-among.ensures in
-    let shares = c.as-slice-in-Split.result.now in
-    let q : split c.in-Split.division shares ≡ asked c.args.request.now = ap (split c.in-Split.division) c.as-slice-in-Split.ensures ∙ sym (ap asked c.in-Split.is) in
+    let facts = c.split_among.ensures in
+    let shares = c.as_slice-in-Split.result.now in
+    let q : split c.in-Split.division shares ≡ asked c.args.request.now = ap (split c.in-Split.division) c.as_slice-in-Split.ensures ∙ sym (ap asked c.in-Split.is) in
     let state : (law : Lawful tie) → t ≡ after s (request_calls (ruled law) s (asked c.args.request.now)) = λ law. facts.state law ∙ ap (λ (a : Asked). after s (request_calls (ruled law) s a)) q in
     record {
       value = λ law. facts.value law ∙ ap (performed (ruled law) s) q;

@@ -13,14 +13,14 @@ use Rattle.requests.specs.Requests.{amounts}
 use Rattle.requests.proofs.Sequences.{answered, one_call}
 use Rattle.requests.proofs.performing.split_among.Goals as goal
 
-pub returns-in-err-split : goal.returns-in-err-split
-returns-in-err-split g c =
+pub returns-in_err-split : goal.returns-in_err-split
+returns-in_err-split g c =
     let s = state_of g.L.Balances c.args.book.now in
     let t = state_of g.L.Balances c.split.new.self in
     let p = err_from_is_err_and c.from-residual.result c.from-residual.ensures.1 in
     let tie = g.R.TieRule.tie c.args.rule.now in
     let call : Lawful tie → Call = λ law. split tie law c.args.division c.args.shares.now most_shares most_shares in
-    let facts = c.in-err-split.ensures in
+    let facts = c.in_err-split.ensures in
     rw (p.1, p.2) (record {
       value = λ law. ap (λ (r : Result (List Minor × List Fraction) Refusal). given_by (λ given. amounts given.0) r) (answered s (call law) _ t (facts.step law));
       state = λ law. one_call s (call law) _ t (facts.step law);
@@ -32,7 +32,7 @@ returns g c =
     let t = state_of g.L.Balances c.split.new.self in
     let tie = g.R.TieRule.tie c.args.rule.now in
     let call : Lawful tie → Call = λ law. split tie law c.args.division c.args.shares.now most_shares most_shares in
-    let facts = c.in-ok-split.ensures in
+    let facts = c.in_ok-split.ensures in
     record {
       value = λ law. ap (λ (r : Result (List Minor × List Fraction) Refusal). given_by (λ given. amounts given.0) r) (answered s (call law) _ t (facts.step law));
       state = λ law. one_call s (call law) _ t (facts.step law);

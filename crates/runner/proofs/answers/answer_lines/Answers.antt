@@ -12,14 +12,14 @@ use Rattle.runner.proofs.answers.answer_lines.Goals as goal
 pub loop-rest-init : goal.loop-rest-init
 loop-rest-init g c = ((omega arith, omega arith), λ law. going_start _ _ _ _)
 
-pub returns-in-err-write-answer : goal.returns-in-err-write-answer
-returns-in-err-write-answer g c =
+pub returns-in_err-write_answer : goal.returns-in_err-write_answer
+returns-in_err-write_answer g c =
     let p = err_from_is_err_and c.from-residual.result c.from-residual.ensures.1 in
     let some : 0 < length c.loop-rest.rest.now = grind (arith, nat_tests) in
     let t = state_of g.L.Balances c.loop-rest.book in
-    let u = state_of g.L.Balances c.perform-line-outcome.new.book in
+    let u = state_of g.L.Balances c.perform_line-outcome.new.book in
     rw p.1 (record {
-      done = λ law. going_stopped (ruled law) (state_of g.L.Balances c.args.book.now) c.args.input.now (string_bytes c.args.transcript.now) t u (string_bytes c.loop-rest.transcript) (string_bytes c.loop-rest.transcript) c.loop-rest.rest.now c.cut-line.result.0.now c.cut-line.result.1.now c.loop-rest.number (c.loop-rest.invariant.1 law) (c.cut-line.ensures.lines some) (c.perform-line-outcome.ensures.state law);
+      done = λ law. going_stopped (ruled law) (state_of g.L.Balances c.args.book.now) c.args.input.now (string_bytes c.args.transcript.now) t u (string_bytes c.loop-rest.transcript) (string_bytes c.loop-rest.transcript) c.loop-rest.rest.now c.cut_line.result.0.now c.cut_line.result.1.now c.loop-rest.number (c.loop-rest.invariant.1 law) (c.cut_line.ensures.lines some) (c.perform_line-outcome.ensures.state law);
       empty = λ none. absurd (omega (arith, none, some, c.loop-rest.invariant.0.0, c.loop-rest.invariant.0.1));
     })
 
@@ -27,14 +27,14 @@ pub loop-rest-preserved : goal.loop-rest-preserved
 loop-rest-preserved g c =
     let some : 0 < length c.loop-rest.rest.now = grind (arith, nat_tests) in
     let t = state_of g.L.Balances c.loop-rest.book in
-    let u = state_of g.L.Balances c.perform-line-outcome.new.book in
+    let u = state_of g.L.Balances c.perform_line-outcome.new.book in
     let before = string_bytes c.args.transcript.now in
     let since = string_bytes c.loop-rest.transcript in
-    let later = string_bytes c.write-answer.new.transcript in
+    let later = string_bytes c.write_answer.new.transcript in
     let number = c.loop-rest.number in (
-      (omega (arith, c.cut-line.ensures.shorter some, c.loop-rest.invariant.0.0), omega (arith, c.loop-rest.invariant.0.1)),
-      λ law. going_more (ruled law) (state_of g.L.Balances c.args.book.now) c.args.input.now before t u since later c.loop-rest.rest.now c.cut-line.result.0.now c.cut-line.result.1.now number (c.loop-rest.invariant.1 law) (c.cut-line.ensures.lines some) (c.perform-line-outcome.ensures.state law)
-          (c.in-ok-write-answer.ensures.text ∙ ap (λ o. since ++ answer_line number o) (c.perform-line-outcome.ensures.value law)),
+      (omega (arith, c.cut_line.ensures.shorter some, c.loop-rest.invariant.0.0), omega (arith, c.loop-rest.invariant.0.1)),
+      λ law. going_more (ruled law) (state_of g.L.Balances c.args.book.now) c.args.input.now before t u since later c.loop-rest.rest.now c.cut_line.result.0.now c.cut_line.result.1.now number (c.loop-rest.invariant.1 law) (c.cut_line.ensures.lines some) (c.perform_line-outcome.ensures.state law)
+          (c.in_ok-write_answer.ensures.text ∙ ap (λ o. since ++ answer_line number o) (c.perform_line-outcome.ensures.value law)),
     )
 
 pub returns : goal.returns

@@ -10,7 +10,7 @@ use Rattle.book.specs.View.{state_of}
 use Rattle.runner.specs.Audit.{cell_at, cells_of}
 use Rattle.runner.proofs.Listing.{cells_none, cells_same, text_kept, count_kept, not_zero, zero_is}
 use Rattle.runner.proofs.audit.write_account.Goals as goal
-use Rattle.runner.proofs.audit.write_account.Goals.{then-amount-ne0+in-ok-append, else-amount-ne0}
+use Rattle.runner.proofs.audit.write_account.Goals.{then-amount-ne0+in_ok-append, else-amount-ne0}
 
 pub loop-column-init : goal.loop-column-init
 loop-column-init g c =
@@ -31,9 +31,9 @@ loop-column-preserved g c =
     let fits : SFits w64 amount = search rules in
     let is : amount ≡ s.ledger.cell a k = ap (λ (xs : List ℤ). get_or xs k (pos 0)) c.row-row.ensures.value ∙ row_reads s.ledger a k (pos 0) c.loop-column-test.true in
     elim c.if-amount-ne0.branch [
-      | then-amount-ne0+in-ok-append w ↦
+      | then-amount-ne0+in_ok-append w ↦
           let some : is_zero (s.ledger.cell a k) ≡ false = ap is_zero (sym is) ∙ not_zero amount (λ (e : amount ≡ pos 0). w.if-amount-ne0.true (ap (of_z w64) e)) in
-          let wrote = w.in-ok-append.ensures in (
+          let wrote = w.in_ok-append.ensures in (
             ap string_bytes w.transcript-is
                 ∙ wrote
                 ∙ ap (λ (z : ℤ). string_bytes c.loop-column.transcript ++ cell_text (record { account = a; column = k; amount = z })) (to_z-of_z w64 amount fits ∙ is)

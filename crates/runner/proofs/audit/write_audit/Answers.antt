@@ -16,10 +16,10 @@ returns g c =
     let before = string_bytes c.args.transcript.now in
     let head = c.audit-kind.ensures.value in
     IfOk-weaker c.append-2.result _ _ (λ _ e.
-    appended_four before (string_bytes c.append.new.transcript) (string_bytes c.write-cells.new.transcript) (string_bytes c.write-records.new.transcript) (string_bytes c.append-2.new.transcript) _ _ _ _
-    c.in-ok-append.ensures c.in-ok-cells.ensures.text c.in-ok-write-records.ensures e
+    appended_four before (string_bytes c.append.new.transcript) (string_bytes c.write_cells.new.transcript) (string_bytes c.write_records.new.transcript) (string_bytes c.append-2.new.transcript) _ _ _ _
+    c.in_ok-append.ensures c.in_ok-cells.ensures.text c.in_ok-write_records.ensures e
     ∙ (λ i. before ++ (heading_text (record { kind = (head i).kind; room = (head i).room })
     ++ (flat_map cell_text (cells_below s accounts)
     ++ (flat_map open_text (c.records.ensures.value i)
-    ++ end_text (record { cells = c.in-ok-cells.ensures.count i; records = (head i).records })))))
+    ++ end_text (record { cells = c.in_ok-cells.ensures.count i; records = (head i).records })))))
     ) c.append-2.ensures

@@ -22,7 +22,7 @@ loop-account-preserved g c =
     let a = c.loop-account.account in
     let before = string_bytes c.args.transcript.now in
     let inv = c.loop-account.invariant in
-    let wrote = c.in-ok-cells.ensures in (
+    let wrote = c.in_ok-cells.ensures in (
       wrote.text ∙ ap (λ (bs : List ℕ). bs ++ flat_map cell_text (cells_of s a columns)) inv.0 ∙ text_more s a before,
       (λ i. inv.1 i + wrote.count i) ∙ count-more s a,
       omega (arith, wrote.bound, inv.2),

@@ -15,7 +15,7 @@ loop-record-preserved c =
     let before = string_bytes c.args.transcript.now in
     let blank : Record = record { number = 0; from = Euro; to = Euro; euro = record { 0 = pos 0 }; national = record { 0 = pos 0 }; standing = Out } in
     let r = get_or rs i blank in
-    c.in-ok-append.ensures
+    c.in_ok-append.ensures
     ∙ ap (λ (bs : List ℕ). bs ++ open_text r) c.loop-record.invariant
     ∙ flat_map_more open_text before (take i rs) r
     ∙ ap (λ (xs : List Record). before ++ flat_map open_text xs) (sym (take_more rs i blank c.loop-record-test.true))

@@ -6,34 +6,34 @@ use Rattle.apportion.proofs.Bounds.{weights_small, remainder-small, quotient-sma
 use Rattle.apportion.proofs.Signed.{small_back, sum_fits, sum_back, difference_back}
 use Rattle.apportion.proofs.split.Division.part.Goals as goal
 
-pub overflow-cast-quotient : goal.overflow-cast-quotient
-overflow-cast-quotient g c =
+pub overflow_cast-quotient : goal.overflow_cast-quotient
+overflow_cast-quotient g c =
     let a = quotient-small c.args.self.amount c.args.self.shares.now c.args.self.weights c.requires.divisible c.args.i c.requires.within in
     let b = c.requires.divisible.amount_most in
     let e = c.quotient-quotient.ensures in
     search rules
 
-pub overflow-cast-remainder : goal.overflow-cast-remainder
-overflow-cast-remainder g c =
+pub overflow_cast-remainder : goal.overflow_cast-remainder
+overflow_cast-remainder g c =
     let a = remainder-small c.args.self.amount c.args.self.shares.now c.args.self.weights c.requires.divisible c.args.i in
     let b = weights_small c.args.self.amount c.args.self.shares.now c.args.self.weights c.requires.divisible in
     let e = c.remainder-remainder.ensures in
     search rules
 
-pub overflow-add-result : goal.overflow-add-result
-overflow-add-result g c =
+pub overflow_add-result : goal.overflow_add-result
+overflow_add-result g c =
     let a = quotient-small c.args.self.amount c.args.self.shares.now c.args.self.weights c.requires.divisible c.args.i c.requires.within in
     let b = c.requires.divisible.amount_most in
     let e = c.quotient-quotient.ensures in
     sum_fits c.quotient-quotient.result (omega arith)
 
-pub overflow-cast-result : goal.overflow-cast-result
-overflow-cast-result g c =
+pub overflow_cast-result : goal.overflow_cast-result
+overflow_cast-result g c =
     let b = weights_small c.args.self.amount c.args.self.shares.now c.args.self.weights c.requires.divisible in
     search rules
 
-pub overflow-sub-result : goal.overflow-sub-result
-overflow-sub-result g c =
+pub overflow_sub-result : goal.overflow_sub-result
+overflow_sub-result g c =
     let a = remainder-small c.args.self.amount c.args.self.shares.now c.args.self.weights c.requires.divisible c.args.i in
     let b = weights_small c.args.self.amount c.args.self.shares.now c.args.self.weights c.requires.divisible in
     let e = c.remainder-remainder.ensures in

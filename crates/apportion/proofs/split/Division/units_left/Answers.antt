@@ -6,8 +6,8 @@ use Rattle.apportion.proofs.Checks.{sum_more}
 use Rattle.apportion.proofs.Bounds.{quotients_so_far}
 use Rattle.apportion.proofs.split.Division.units_left.Goals as goal
 
-pub overflow-add-given : goal.overflow-add-given
-overflow-add-given c =
+pub overflow_add-given : goal.overflow_add-given
+overflow_add-given c =
     let s = c.args.self.shares.now in
     let m = sum_more (quotient c.args.self.amount s) c.loop-i.i in
     let q = quotients_so_far c.args.self.amount s c.args.self.weights c.requires (c.loop-i.i + 1) (omega arith) in
@@ -19,8 +19,8 @@ loop-i-preserved c =
     let s = c.args.self.shares.now in
     omega (arith, sum_more (quotient c.args.self.amount s) c.loop-i.i, c.quotient-given.ensures, c.loop-i.invariant)
 
-pub overflow-sub-result : goal.overflow-sub-result
-overflow-sub-result c =
+pub overflow_sub-result : goal.overflow_sub-result
+overflow_sub-result c =
     omega (arith, quotients_so_far c.args.self.amount c.args.self.shares.now c.args.self.weights c.requires c.loop-i.i (omega arith))
 
 pub returns : goal.returns

@@ -8,22 +8,22 @@ use Rattle.book.specs.View.{state_of}
 use Rattle.book.proofs.Settled.{step_mark}
 use Rattle.book.proofs.book.Book.convert.Goals as goal
 
-pub returns-in-err-booked : goal.returns-in-err-booked
-returns-in-err-booked g c =
+pub returns-in_err-booked : goal.returns-in_err-booked
+returns-in_err-booked g c =
     let s = state_of g.L.Balances c.args.self.now in
     let t = state_of g.L.Balances c.issue.new.self in
     let p = err_from_is_err_and c.from-residual.result c.from-residual.ensures.1 in
-    let e = c.in-err-booked.ensures in
-    rw (p.1, p.2) (record { step = e; marked = tt; law = still_conserved s (convert c.args.exchange) (Err (registered c.in-err-booked.field-0.0)) t e })
+    let e = c.in_err-booked.ensures in
+    rw (p.1, p.2) (record { step = e; marked = tt; law = still_conserved s (convert c.args.exchange) (Err (registered c.in_err-booked.field-0.0)) t e })
 
 pub returns : goal.returns
 returns g c =
     let s = state_of g.L.Balances c.args.self.now in
     let t = state_of g.L.Balances c.issue.new.self in
     let same : c.new.result.mark ≡ t.mark = ap (λ z. z.mark) c.new.ensures in
-    let e = (λ i. (Ok (c.in-ok-booked.booked, (c.new.ensures i).number), t)) ∙ c.in-ok-booked.ensures in
+    let e = (λ i. (Ok (c.in_ok-booked.booked, (c.new.ensures i).number), t)) ∙ c.in_ok-booked.ensures in
     record {
       step = e;
       marked = same ∙ ap (λ z. z.1.mark) e ∙ step_mark s (convert c.args.exchange);
-      law = still_conserved s (convert c.args.exchange) (Ok (c.in-ok-booked.booked, c.new.result.number)) t e;
+      law = still_conserved s (convert c.args.exchange) (Ok (c.in_ok-booked.booked, c.new.result.number)) t e;
     }

@@ -8,4 +8,4 @@ use Rattle.book.proofs.book.Book.kind.Goals as goal
 pub returns : goal.returns
 returns g c =
     let s = state_of g.L.Balances c.args.self.now in
-    record { value = c.kind-letter.ensures; law = asked_conserves s kind _ c.kind-letter.ensures }
+    record { value = c.kind_letter.ensures; law = asked_conserves s kind _ c.kind_letter.ensures }

@@ -7,5 +7,5 @@ use Rattle.book.proofs.book.Book.post.Goals as goal
 pub returns : goal.returns
 returns g c =
     let s = state_of g.L.Balances c.args.self.now in
-    let t = state_of g.L.Balances c.enter-post.new.self in
-    record { step = c.enter-post.ensures; law = still_conserved s (post c.args.postings.now) _ t c.enter-post.ensures }
+    let t = state_of g.L.Balances c.enter_post.new.self in
+    record { step = c.enter_post.ensures; law = still_conserved s (post c.args.postings.now) _ t c.enter_post.ensures }

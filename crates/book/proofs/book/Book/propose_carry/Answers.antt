@@ -8,5 +8,5 @@ use Rattle.book.proofs.book.Book.propose_carry.Goals as goal
 pub returns : goal.returns
 returns g c =
     let r = c.in-Some.docketed in
-    let whole : legs_of c.carry-entry.result ≡ carry_legs r c.args.account = c.carry-entry.ensures ∙ carry_whole r c.args.account c.in-Some.ensures.bounded (sym c.if-not-is-named.ensures) in
+    let whole : legs_of c.carry_entry.result ≡ carry_legs r c.args.account = c.carry_entry.ensures ∙ carry_whole r c.args.account c.in-Some.ensures.bounded (sym c.if-not-is_named.ensures) in
     search rules

@@ -4,4 +4,4 @@ use Rattle.book.proofs.Posts.{posting_proposed}
 use Rattle.book.proofs.book.Book.propose_post.Goals as goal
 
 pub returns : goal.returns
-returns g c = posting_proposed (state_of g.L.Balances c.args.self.now) c.args.postings.now c.post-entry.result c.if-not-self.false c.post-entry.ensures
+returns g c = posting_proposed (state_of g.L.Balances c.args.self.now) c.args.postings.now c.post_entry.result c.if-not-self.false c.post_entry.ensures

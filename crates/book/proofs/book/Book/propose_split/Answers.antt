@@ -10,25 +10,25 @@ use Rattle.book.specs.View.{state_of}
 use Rattle.book.proofs.Splits.{front_of, holds_front, wide_passes, splitting_refused, splitting_passes, entering-splits}
 use Rattle.book.proofs.book.Book.propose_split.Goals as goal
 
-pub returns-in-err-apportion : goal.returns-in-err-apportion
-returns-in-err-apportion g c =
-    let p = err_from_is_err_and c.from-residual-in-err-apportion.result c.from-residual-in-err-apportion.ensures.1 in
+pub returns-in_err-apportion : goal.returns-in_err-apportion
+returns-in_err-apportion g c =
+    let p = err_from_is_err_and c.from-residual-in_err-apportion.result c.from-residual-in_err-apportion.ensures.1 in
     let s = state_of g.L.Balances c.args.self.now in
     let tie = g.R.TieRule.tie c.args.rule.now in
     rw (p.1, p.2)
     (record {
-      value = splitting_refused s tie c.args.division c.args.shares.now c.args.lent.portions c.args.lent.fractions c.in-ok-currency.currency c.if-not-self.false (sym c.in-ok-currency.ensures) (sym c.if-not-is-named.ensures) _ c.in-err-apportion.ensures.value;
+      value = splitting_refused s tie c.args.division c.args.shares.now c.args.lent.portions c.args.lent.fractions c.in_ok-currency.currency c.if-not-self.false (sym c.in_ok-currency.ensures) (sym c.if-not-is_named.ensures) _ c.in_err-apportion.ensures.value;
       portions = tt;
       fractions = tt;
     })
 
 -- the portions are as many as the shares
-pub slice-bounds-split-entry-end : goal.slice-bounds-split-entry-end
-slice-bounds-split-entry-end g c =
+pub slice_bounds-split_entry-end : goal.slice_bounds-split_entry-end
+slice_bounds-split_entry-end g c =
     let given = portions (g.R.TieRule.tie c.args.rule.now) (nat_abs c.args.division.amount.0) c.args.shares.now in
     let k = length c.args.shares.now in
     let long : length given ≡ k = length-portions (g.R.TieRule.tie c.args.rule.now) (nat_abs c.args.division.amount.0) c.args.shares.now in
-    holds_front c.apportion.new.portions given k (ap (take k) c.in-ok-apportion.ensures.portions ∙ front_of given _ k long) long
+    holds_front c.apportion.new.portions given k (ap (take k) c.in_ok-apportion.ensures.portions ∙ front_of given _ k long) long
 
 pub returns : goal.returns
 returns g c =
@@ -40,9 +40,9 @@ returns g c =
     let n = c.args.lent.fractions in
     let k = length shares in
     let amount = nat_abs d.amount.0 in
-    let made = c.in-ok-apportion.ensures in
-    let kind = c.in-ok-currency.currency in
-    let account = sym c.if-not-is-named.ensures in
+    let made = c.in_ok-apportion.ensures in
+    let kind = c.in_ok-currency.currency in
+    let account = sym c.if-not-is_named.ensures in
     let long : k ≤ m = c.if-lent-shares.false in
     let wide : k ≤ n = c.if-lent-shares-2.false in
     let passes : Ok tt ≡ verdict d.amount.0 shares m n = wide_passes d.amount.0 shares m n made.value long wide in
@@ -51,8 +51,8 @@ returns g c =
     let is = entry_legs_lem _ (split_is_entry tie (g.met.R.TieRule.lawful c.args.rule.now) d kind shares m n account (sym passes)) in
     record {
       value =
-          ap Ok (entering-splits tie d kind shares (take k c.apportion.new.portions) (take (k - 0) c.apportion.new.portions) (take k c.apportion.new.fractions) c.split-entry-entry.result ps (ap (λ j. take j c.apportion.new.portions) (omega arith)) fs c.split-entry-entry.ensures is)
-          ∙ splitting_passes s tie d shares m n kind c.if-not-self.false (sym c.in-ok-currency.ensures) account passes;
+          ap Ok (entering-splits tie d kind shares (take k c.apportion.new.portions) (take (k - 0) c.apportion.new.portions) (take k c.apportion.new.fractions) c.split_entry-entry.result ps (ap (λ j. take j c.apportion.new.portions) (omega arith)) fs c.split_entry-entry.ensures is)
+          ∙ splitting_passes s tie d shares m n kind c.if-not-self.false (sym c.in_ok-currency.ensures) account passes;
       portions = record { front = ps; enough = holds_front _ _ k ps (length-portions tie amount shares); room = long };
       fractions = record { front = fs; enough = holds_front _ _ k fs (length-fractions tie amount shares); room = wide };
     }

@@ -10,5 +10,5 @@ returns g c =
     let f = c.in-Some.fraction in
     let a = c.args.account in
     let q = c.sweepable-swept.result.0 in
-    let whole : legs_of c.sweep-entry.result ≡ sweep_legs a f q = c.sweep-entry.ensures ∙ sweep_whole a f _ q c.sweepable-swept.ensures.swept (sym c.if-not-is-named.ensures) in
+    let whole : legs_of c.sweep_entry.result ≡ sweep_legs a f q = c.sweep_entry.ensures ∙ sweep_whole a f _ q c.sweepable-swept.ensures.swept (sym c.if-not-is_named.ensures) in
     search rules

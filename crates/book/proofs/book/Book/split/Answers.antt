@@ -9,8 +9,8 @@ use Rattle.book.proofs.book.Book.split.Goals as goal
 pub returns : goal.returns
 returns g c =
     let s = state_of g.L.Balances c.args.self.now in
-    let t = state_of g.L.Balances c.enter-split.new.self in
-    let facts = c.enter-split.ensures in
+    let t = state_of g.L.Balances c.enter_split.new.self in
+    let facts = c.enter_split.ensures in
     let tie = g.R.TieRule.tie c.args.rule.now in
     let call : Lawful tie → Call = λ law. split tie law c.args.division c.args.shares.now (length c.args.portions.now) (length c.args.fractions.now) in
     record {

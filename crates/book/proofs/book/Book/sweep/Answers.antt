@@ -7,5 +7,5 @@ use Rattle.book.proofs.book.Book.sweep.Goals as goal
 pub returns : goal.returns
 returns g c =
     let s = state_of g.L.Balances c.args.self.now in
-    let t = state_of g.L.Balances c.enter-sweep.new.self in
-    record { step = c.enter-sweep.ensures; law = still_conserved s (sweep c.args.account c.args.column) _ t c.enter-sweep.ensures }
+    let t = state_of g.L.Balances c.enter_sweep.new.self in
+    record { step = c.enter_sweep.ensures; law = still_conserved s (sweep c.args.account c.args.column) _ t c.enter_sweep.ensures }

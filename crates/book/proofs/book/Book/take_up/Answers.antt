@@ -8,20 +8,20 @@ use Rattle.book.specs.View.{state_of}
 use Rattle.book.proofs.Settled.{step_mark}
 use Rattle.book.proofs.book.Book.take_up.Goals as goal
 
-pub returns-in-err-number : goal.returns-in-err-number
-returns-in-err-number g c =
+pub returns-in_err-number : goal.returns-in_err-number
+returns-in_err-number g c =
     let s = state_of g.L.Balances c.args.self.now in
     let t = state_of g.L.Balances c.reissue.new.self in
     let p = err_from_is_err_and c.from-residual.result c.from-residual.ensures.1 in
-    let e = c.in-err-number.ensures in
-    rw (p.1, p.2) (record { step = e; marked = tt; law = still_conserved s (take_up c.args.number) (Err (registered c.in-err-number.field-0.0)) t e })
+    let e = c.in_err-number.ensures in
+    rw (p.1, p.2) (record { step = e; marked = tt; law = still_conserved s (take_up c.args.number) (Err (registered c.in_err-number.field-0.0)) t e })
 
 pub returns : goal.returns
 returns g c =
     let s = state_of g.L.Balances c.args.self.now in
     let t = state_of g.L.Balances c.reissue.new.self in
     let same : c.new.result.mark ≡ t.mark = ap (λ z. z.mark) c.new.ensures in
-    let e = (λ i. (Ok (c.new.ensures i).number, t)) ∙ c.in-ok-number.ensures in
+    let e = (λ i. (Ok (c.new.ensures i).number, t)) ∙ c.in_ok-number.ensures in
     record {
       step = e;
       marked = same ∙ ap (λ z. z.1.mark) e ∙ step_mark s (take_up c.args.number);

@@ -4,12 +4,12 @@ use Rattle.docket.proofs.Appending.{append_one}
 use Rattle.docket.proofs.Bounds.{all_bounded-set}
 use Rattle.docket.proofs.docket.Docket.append.Goals as goal
 
-pub invariant-of-self : goal.invariant-of-self
-invariant-of-self c =
+pub invariant_of-self : goal.invariant_of-self
+invariant_of-self c =
     let d = c.args.self.now in
-    (search rules, (search rules, (all_bounded-set d.stored d.count c.args.record d.bounded (sym c.if-not-residues-bounded.ensures), tt)))
+    (search rules, (search rules, (all_bounded-set d.stored d.count c.args.record d.bounded (sym c.if-not-residues_bounded.ensures), tt)))
 
 pub returns : goal.returns
 returns c =
     let d = c.args.self.now in
-    append_one d.stored d.count (omega (arith, d.wide, d.within)) c.args.record (omega arith) (omega (arith, d.wide)) (sym c.if-not-residues-bounded.ensures)
+    append_one d.stored d.count (omega (arith, d.wide, d.within)) c.args.record (omega arith) (omega (arith, d.wide)) (sym c.if-not-residues_bounded.ensures)

@@ -8,16 +8,16 @@ pub returns-then-i-self : goal.returns-then-i-self
 returns-then-i-self c =
     let d = c.args.self.now in
     record {
-      value = find_some d.stored d.count (omega (arith, d.wide, d.within)) c.args.number c.place-of-i.result c.place-of-i.ensures c.if-i-self.true;
-      numbered = number_found d.stored d.count (omega (arith, d.wide, d.within)) c.args.number c.place-of-i.result c.place-of-i.ensures c.if-i-self.true;
-      bounded = bounded_facts _ (bounded_at d.stored c.place-of-i.result blank d.bounded (omega (arith, d.wide, d.within, c.if-i-self.true)));
+      value = find_some d.stored d.count (omega (arith, d.wide, d.within)) c.args.number c.place_of-i.result c.place_of-i.ensures c.if-i-self.true;
+      numbered = number_found d.stored d.count (omega (arith, d.wide, d.within)) c.args.number c.place_of-i.result c.place_of-i.ensures c.if-i-self.true;
+      bounded = bounded_facts _ (bounded_at d.stored c.place_of-i.result blank d.bounded (omega (arith, d.wide, d.within, c.if-i-self.true)));
     }
 
 pub returns-else-i-self : goal.returns-else-i-self
 returns-else-i-self c =
     let d = c.args.self.now in
     record {
-      value = find_none d.stored d.count (omega (arith, d.wide, d.within)) c.args.number c.place-of-i.result c.place-of-i.ensures c.if-i-self.false;
+      value = find_none d.stored d.count (omega (arith, d.wide, d.within)) c.args.number c.place_of-i.result c.place_of-i.ensures c.if-i-self.false;
       numbered = tt;
       bounded = tt;
     }

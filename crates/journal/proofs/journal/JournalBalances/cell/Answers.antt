@@ -9,10 +9,10 @@ use Rattle.journal.proofs.journal.JournalBalances.cell.Goals as goal
 pub recorded-requires : goal.recorded-requires
 recorded-requires c = omega (arith, ap length c.records.ensures, taken_few c.args.self.now.records.now c.args.self.now.taken)
 
-pub returns-then-is-cell : goal.returns-then-is-cell
-returns-then-is-cell c =
+pub returns-then-is_cell : goal.returns-then-is_cell
+returns-then-is_cell c =
     let back : to_z w64 (of_z w64 c.recorded.result) ≡ c.recorded.result = omega (arith, ints) in
-    let there = c.if-is-cell.ensures in
+    let there = c.if-is_cell.ensures in
     record {
       value = back ∙ c.recorded.ensures ∙ ap (λ xs. recorded xs c.args.account c.args.column) c.records.ensures ∙ sym (cond-true _ _ _ (sym there));
       outside = λ o. absurd (true≢false (there ∙ o));

@@ -7,11 +7,11 @@ use Rattle.journal.proofs.Records.{taken_few}
 use Rattle.journal.proofs.Rows.{listed-recorded}
 use Rattle.journal.proofs.journal.JournalBalances.row.Goals as goal
 
-pub recorded-row-requires : goal.recorded-row-requires
-recorded-row-requires c = omega (arith, ap length c.records.ensures, taken_few c.args.self.now.records.now c.args.self.now.taken)
+pub recorded_row-requires : goal.recorded_row-requires
+recorded_row-requires c = omega (arith, ap length c.records.ensures, taken_few c.args.self.now.records.now c.args.self.now.taken)
 
 pub returns : goal.returns
 returns c =
     let a = c.args.account in
-    row_is (journal_meaning c.args.self.now) a c.recorded-row.result c.recorded-row.ensures.count
-    (λ k h. c.recorded-row.ensures.cells k h ∙ ap (λ (rs : List Leg). recorded rs a k) c.records.ensures ∙ listed-recorded (journal_records c.args.self.now) a k)
+    row_is (journal_meaning c.args.self.now) a c.recorded_row.result c.recorded_row.ensures.count
+    (λ k h. c.recorded_row.ensures.cells k h ∙ ap (λ (rs : List Leg). recorded rs a k) c.records.ensures ∙ listed-recorded (journal_records c.args.self.now) a k)

@@ -7,6 +7,6 @@ use Rattle.journal.proofs.journal.JournalLedger.take.Goals as goal
 pub write-requires : goal.write-requires
 write-requires c =
     record {
-      room = (verdict-taken _ c.legs.result.now (ap (verdict _) c.legs.ensures.value ∙ sym c.in-ok-decide.ensures)).0;
+      room = (verdict-taken _ c.legs.result.now (ap (verdict _) c.legs.ensures.value ∙ sym c.in_ok-decide.ensures)).0;
       lawful = c.legs.ensures.lawful;
     }

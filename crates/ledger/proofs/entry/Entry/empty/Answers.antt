@@ -3,5 +3,5 @@ use Rattle.std.proofs.Common.{arith}
 use Rattle.ledger.proofs.Entries.{empty_entry}
 use Rattle.ledger.proofs.entry.Entry.empty.Goals as goal
 
-pub invariant-of-result : goal.invariant-of-result
-invariant-of-result c = ((omega arith, empty_entry), tt)
+pub invariant_of-result : goal.invariant_of-result
+invariant_of-result c = ((omega arith, empty_entry), tt)

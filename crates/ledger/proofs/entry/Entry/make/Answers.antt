@@ -12,7 +12,7 @@ pub loop-i-preserved : goal.loop-i-preserved
 loop-i-preserved c =
     let ls = c.args.legs.now in
     let l = get_or ls c.loop-i.i (leg 0 0 (pos 0)) in
-    let is : is_entry ls ≡ true = sym c.if-not-is-entry.ensures in
+    let is : is_entry ls ≡ true = sym c.if-not-is_entry.ensures in
     let few : length ls ≤ most_legs = (entry_legs_lem ls is).few in
     let lt : c.loop-i.i < length c.loop-i.stored = omega arith in (
       length-set _ _ _ ∙ c.loop-i.invariant.0,
@@ -25,24 +25,24 @@ whole c =
     let n : length c.args.legs.now ≡ c.loop-i.i = omega arith in
     ap (λ k. take k c.loop-i.stored) n ∙ c.loop-i.invariant.1 ∙ take_all _ _ c.loop-i-test.false
 
-pub invariant-of-self : goal.invariant-of-self
-invariant-of-self c =
-    let is : is_entry c.args.legs.now ≡ true = sym c.if-not-is-entry.ensures in
-    (((entry_legs_lem _ is).few, ap is_entry (whole (goal.at.invariant-of-self c).After-loop-i) ∙ is), tt)
+pub invariant_of-self : goal.invariant_of-self
+invariant_of-self c =
+    let is : is_entry c.args.legs.now ≡ true = sym c.if-not-is_entry.ensures in
+    (((entry_legs_lem _ is).few, ap is_entry (whole (goal.at.invariant_of-self c).After-loop-i) ∙ is), tt)
 
 pub returns : goal.returns
 returns c =
     let ls = c.args.legs.now in
-    let is = c.if-not-is-entry.ensures in
+    let is = c.if-not-is_entry.ensures in
     record { tells = Decides-at _ _ is (entry_decides ls); value = is; holds = whole (goal.at.returns c).After-loop-i }
 
-pub returns-then-not-is-entry : goal.returns-then-not-is-entry
-returns-then-not-is-entry c =
+pub returns-then-not-is_entry : goal.returns-then-not-is_entry
+returns-then-not-is_entry c =
     let ls = c.args.legs.now in
-    let is = c.if-not-is-entry.ensures in
+    let is = c.if-not-is_entry.ensures in
     record { tells = Decides-at _ _ is (entry_decides ls); value = is; holds = c.empty.ensures }
 
 pub bounds-stored-i : goal.bounds-stored-i
 bounds-stored-i c =
-    let few : length c.args.legs.now ≤ most_legs = (entry_legs_lem _ (sym c.if-not-is-entry.ensures)).few in
+    let few : length c.args.legs.now ≤ most_legs = (entry_legs_lem _ (sym c.if-not-is_entry.ensures)).few in
     omega arith

@@ -11,6 +11,6 @@ pub returns-in-None : goal.returns-in-None
 unfolding currency_at
 returns-in-None c = search rules
 
-pub returns-in-default : goal.returns-in-default
+pub returns-in_default : goal.returns-in_default
 unfolding currency_at
-returns-in-default c = search rules
+returns-in_default c = search rules

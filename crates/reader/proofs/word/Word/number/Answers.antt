@@ -7,6 +7,6 @@ pub returns-in-Number : goal.returns-in-Number
 unfolding number_at
 returns-in-Number c = search rules
 
-pub returns-in-default : goal.returns-in-default
+pub returns-in_default : goal.returns-in_default
 unfolding number_at
-returns-in-default c = search rules
+returns-in_default c = search rules

@@ -7,6 +7,6 @@ pub returns-in-Pair : goal.returns-in-Pair
 unfolding share_at
 returns-in-Pair c = search rules
 
-pub returns-in-default : goal.returns-in-default
+pub returns-in_default : goal.returns-in_default
 unfolding share_at
-returns-in-default c = search rules
+returns-in_default c = search rules

@@ -7,6 +7,6 @@ pub returns-in-Signed : goal.returns-in-Signed
 unfolding signed_at
 returns-in-Signed c = search rules
 
-pub returns-in-default : goal.returns-in-default
+pub returns-in_default : goal.returns-in_default
 unfolding signed_at
-returns-in-default c = search rules
+returns-in_default c = search rules

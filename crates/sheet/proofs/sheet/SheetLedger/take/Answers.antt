@@ -12,9 +12,9 @@ returns c =
     let m = sheet_meaning s in
     let ls = c.legs.result.now in
     let same = c.legs.ensures.value in
-    let told : verdict m ls ≡ Ok tt = ap (verdict m) same ∙ sym c.in-ok-check.ensures in
+    let told : verdict m ls ≡ Ok tt = ap (verdict m) same ∙ sym c.in_ok-check.ensures in
     record {
-      refused = c.in-ok-check.ensures;
+      refused = c.in_ok-check.ensures;
       meaning = taken_meaning s.cells.now _ s.room _ ls told c.legs.ensures.lawful c.post.ensures.cells c.post.ensures.room ∙ ap (after m) same;
       kept = tt;
       cells = taken_cells s.cells.now _ s.room ls told c.post.ensures.cells ∙ ap (cells_after s.cells.now s.room) same;
