@@ -7,7 +7,7 @@ use Rattle.docket.proofs.docket.Docket.append.Goals as goal
 pub invariant_of-self : goal.invariant_of-self
 invariant_of-self c =
     let d = c.args.self.now in
-    (search rules, (search rules, (all_bounded-set d.stored d.count c.args.record d.bounded (sym c.if-not-residues_bounded.ensures), tt)))
+    record { wide = search rules; within = search rules; bounded = all_bounded-set d.stored d.count c.args.record d.bounded (sym c.if-not-residues_bounded.ensures) }
 
 pub returns : goal.returns
 returns c =

@@ -8,7 +8,7 @@ pub invariant_of-self : goal.invariant_of-self
 invariant_of-self c =
     let d = c.args.self.now in
     let lt : c.place_of-i.result < length d.stored = omega (arith, d.wide, d.within, c.if-i-self.true) in
-    (search rules, (d.within, (all_bounded-set d.stored c.place_of-i.result _ d.bounded (bounded_at d.stored c.place_of-i.result blank d.bounded lt), tt)))
+    record { wide = search rules; within = d.within; bounded = all_bounded-set d.stored c.place_of-i.result _ d.bounded (bounded_at d.stored c.place_of-i.result blank d.bounded lt) }
 
 pub returns-then-i-self : goal.returns-then-i-self
 returns-then-i-self c =

@@ -11,7 +11,7 @@ invariant_of-self c =
     let i = c.place_of-i.result in
     let j = c.loop-j.j in
     let lt : i + j + 1 < length d.stored = omega (arith, d.wide, d.within, c.loop-j.invariant.1, c.loop-j-test.true) in
-    (search rules, (d.within, (all_bounded-set d.stored (i + j) _ d.bounded (bounded_at d.stored (i + j + 1) blank d.bounded lt), tt)))
+    record { wide = search rules; within = d.within; bounded = all_bounded-set d.stored (i + j) _ d.bounded (bounded_at d.stored (i + j + 1) blank d.bounded lt) }
 
 pub loop-j-init : goal.loop-j-init
 loop-j-init c = let d = c.args.self.now in (paste_none d.stored c.place_of-i.result (drop (c.place_of-i.result + 1) d.stored), refl)

@@ -4,4 +4,4 @@ use Rattle.ledger.proofs.Entries.{empty_entry}
 use Rattle.ledger.proofs.entry.Entry.empty.Goals as goal
 
 pub invariant_of-result : goal.invariant_of-result
-invariant_of-result c = ((omega arith, empty_entry), tt)
+invariant_of-result c = record { ok = (omega arith, empty_entry) }

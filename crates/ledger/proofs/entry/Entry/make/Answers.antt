@@ -28,7 +28,7 @@ whole c =
 pub invariant_of-self : goal.invariant_of-self
 invariant_of-self c =
     let is : is_entry c.args.legs.now ≡ true = sym c.if-not-is_entry.ensures in
-    (((entry_legs_lem _ is).few, ap is_entry (whole (goal.at.invariant_of-self c).After-loop-i) ∙ is), tt)
+    record { ok = ((entry_legs_lem _ is).few, ap is_entry (whole (goal.at.invariant_of-self c).After-loop-i) ∙ is) }
 
 pub returns : goal.returns
 returns c =

@@ -1,7 +1,7 @@
 -- Assumes nothing.
 use Rattle.std.proofs.Common.{◌≡◌, sym, refl, ap, ◌∙◌, arith}
 use Rattle.std.specs.Str.{bytes_eq}
-use Rattle.money.proofs.Codes.{coded_from, coded-start, coded-end, coded_here, coded-more, test_is}
+use Rattle.money.proofs.Codes.{coded_from, coded-start, coded-end, coded_here, coded-more}
 use Rattle.money.proofs.currency.Currency.from_code.Goals as goal
 
 pub loop-currency-init : goal.loop-currency-init
@@ -15,9 +15,9 @@ returns c =
 pub returns-then-eq : goal.returns-then-eq
 returns-then-eq c =
     sym (c.loop-currency.invariant ∙ coded_here c.args.code c.loop-currency.currency-index _ (omega arith) refl
-    (ap (bytes_eq c.args.code) (sym c.code.ensures) ∙ test_is _ _ _ c.eq.ensures ∙ c.if-eq.true))
+    (ap (bytes_eq c.args.code) (sym c.code.ensures) ∙ sym c.eq.ensures ∙ c.if-eq.true))
 
 pub loop-currency-preserved : goal.loop-currency-preserved
 loop-currency-preserved c =
     c.loop-currency.invariant ∙ coded-more c.args.code c.loop-currency.currency-index _ (omega arith) refl
-    (ap (bytes_eq c.args.code) (sym c.code.ensures) ∙ test_is _ _ _ c.eq.ensures ∙ c.if-eq.false)
+    (ap (bytes_eq c.args.code) (sym c.code.ensures) ∙ sym c.eq.ensures ∙ c.if-eq.false)
