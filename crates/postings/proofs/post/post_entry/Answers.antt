@@ -8,10 +8,10 @@ use Rattle.ledger.proofs.Entries.{legs_entry}
 use Rattle.model.specs.Step.{least_legs, posted_legs}
 use Rattle.postings.proofs.Posting.{posted_uncounted, posted_unread, posted_read, read_entry}
 use Rattle.postings.proofs.post.post_entry.Goals as goal
-use Rattle.postings.proofs.post.post_entry.Goals.{In-ok-legs}
+use Rattle.postings.proofs.post.post_entry.Goals.{In_ok-legs}
 
 -- the legs that were read
-read : (c : In-ok-legs) → posted_legs 1 c.args.postings.now ≡ Ok (take (length c.args.postings.now - 0) c.in_ok-legs.legs)
+read : (c : In_ok-legs) → posted_legs 1 c.args.postings.now ≡ Ok (take (length c.args.postings.now - 0) c.in_ok-legs.legs)
 read c =
     let n : length c.args.postings.now ≡ length c.args.postings.now - 0 = omega arith in
     sym c.in_ok-legs.ensures ∙ ap (λ k. Ok (take k c.in_ok-legs.legs)) n
@@ -22,14 +22,14 @@ returns-in-Some c =
     let ls = take (length ps - 0) c.in_ok-legs.legs in
     ap (λ f. Err (by_book (book_number f.cause) f.place)) c.refused-in-Some.ensures
     ∙ ap (λ k. Err (by_book 7 k)) c.number.ensures
-    ∙ sym (posted_read ps ls (Some c.in-Some.currency) (omega arith) (omega arith) (read (goal.at.returns-in-Some c).In-ok-legs) (sym c.in-Some.ensures))
+    ∙ sym (posted_read ps ls (Some c.in-Some.currency) (omega arith) (omega arith) (read (goal.at.returns-in-Some c).In_ok-legs) (sym c.in-Some.ensures))
 
 pub returns : goal.returns
 returns c =
     let ps = c.args.postings.now in
     let ls = take (length ps - 0) c.in_ok-legs.legs in
     let few : length ps ≤ most_legs = omega arith in
-    let e = read (goal.at.returns c).In-ok-legs in
+    let e = read (goal.at.returns c).In_ok-legs in
     let none = sym c.in_default.ensures in
     ap Ok (c.make.ensures.holds ∙ cond-true _ _ _ (c.make.ensures.value ∙ legs_entry ls (read_entry ps ls few e none)))
     ∙ sym (posted_read ps ls None (omega arith) few e none)
@@ -41,5 +41,5 @@ returns-then-postings-lt-LEAST_LEGS c =
 
 pub returns-in_err-legs : goal.returns-in_err-legs
 returns-in_err-legs c =
-    let p = err_from_is_err_and c.from-residual.result c.from-residual.ensures.1 in
+    let p = err_from_is_err_and c.from_residual.result c.from_residual.ensures.1 in
     rw (p.1, p.2) (sym (posted_unread c.args.postings.now _ (omega arith) (omega arith) (sym c.in_err-legs.ensures)))

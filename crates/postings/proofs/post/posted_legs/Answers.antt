@@ -15,7 +15,7 @@ step c = sym (postings_more (take c.loop-i.i c.loop-i.legs) c.args.postings.now 
 
 pub returns-in_err-legs : goal.returns-in_err-legs
 returns-in_err-legs c =
-    let p = err_from_is_err_and c.from-residual.result c.from-residual.ensures.1 in
+    let p = err_from_is_err_and c.from_residual.result c.from_residual.ensures.1 in
     let a = (goal.at.returns-in_err-legs c).After-posted_leg in
     rw (p.1, p.2) (ap (λ r. and_then r (λ l. joined (take c.loop-i.i c.loop-i.legs ++ l ∷ []) (posted_legs (c.loop-i.i + 1 + 1) (drop (c.loop-i.i + 1) c.args.postings.now)))) c.in_err-legs.ensures ∙ step a)
 

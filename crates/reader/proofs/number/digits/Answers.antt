@@ -11,8 +11,8 @@ returns-in_default c =
     let e = at_drop_more (digits_after c.loop-b.value) c.args.text.now c.loop-b.b-index 0 c.loop-b-test.true in
     record { value = grind (arith, nat_tests, e, c.loop-b.invariant.0); small = tt }
 
-pub returns-in_default·2 : goal.returns-in_default·2
-returns-in_default·2 c =
+pub returns-in_default-2 : goal.returns-in_default-2
+returns-in_default-2 c =
     let e = at_drop_more (digits_after c.loop-b.value) c.args.text.now c.loop-b.b-index 0 c.loop-b-test.true in
     record { value = grind (arith, nat_tests, e, c.loop-b.invariant.0); small = tt }
 

@@ -5,7 +5,7 @@ use Rattle.reader.proofs.number.pair.Goals as goal
 
 pub returns-in_err-second : goal.returns-in_err-second
 returns-in_err-second c =
-    c.from-residual-in_err-second.ensures
+    c.from_residual-in_err-second.ensures
     ∙ pair_at _ _ _ _ c.count_before-n.ensures.value c.if-n-text.false c.in_ok-first.ensures.value c.in_err-second.ensures.value
 
 pub returns : goal.returns

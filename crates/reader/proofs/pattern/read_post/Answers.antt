@@ -9,7 +9,7 @@ returns-then-words-ne0 c = rw c.unknown_pattern.ensures (post_broken c.args.word
 
 pub returns-in_err-postings : goal.returns-in_err-postings
 returns-in_err-postings c =
-    let p = err_from_is_err_and c.from-residual.result c.from-residual.ensures.1 in
+    let p = err_from_is_err_and c.from_residual.result c.from_residual.ensures.1 in
     let thirds : length c.args.words.now % 3 ≡ 0 = search rules in
     rw (p.1, p.2, post_is _ thirds, ← c.in_err-postings.ensures)
 

@@ -7,7 +7,7 @@ use Rattle.reader.proofs.pattern.read_shares.Goals as goal
 
 pub returns-in_err-items : goal.returns-in_err-items
 returns-in_err-items c =
-    let p = err_from_is_err_and c.from-residual.result c.from-residual.ensures.1 in
+    let p = err_from_is_err_and c.from_residual.result c.from_residual.ensures.1 in
     rw (p.1, p.2) (shares_refused c.args.words.now no_word _ _ _ c.loop-i.invariant.1 _ c.loop-i-test.true c.in_err-items.ensures)
 
 pub loop-i-preserved : goal.loop-i-preserved

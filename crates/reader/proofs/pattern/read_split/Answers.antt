@@ -5,34 +5,34 @@ use Rattle.std.proofs.ByRecursion.{All-get_or}
 use Rattle.reader.proofs.Patterns.{no_word, split_is, too_few}
 use Rattle.reader.proofs.pattern.read_split.Goals as goal
 
-pub returns-in_err-account : goal.returns-in_err-account
-returns-in_err-account c =
-    let p = err_from_is_err_and c.from-residual.result c.from-residual.ensures.1 in
+pub returns-in_err-account-in-len3-up : goal.returns-in_err-account-in-len3-up
+returns-in_err-account-in-len3-up c =
+    let p = err_from_is_err_and c.from_residual.result c.from_residual.ensures.1 in
     let three : 3 ≤ length c.args.words.now = search rules in
-    rw (p.1, p.2, split_is _ no_word three, ← c.in_err-account.ensures)
+    rw (p.1, p.2, split_is _ no_word three, ← c.in_err-account-in-len3-up.ensures)
 
-pub returns-in_err-currency : goal.returns-in_err-currency
-returns-in_err-currency c =
-    let p = err_from_is_err_and c.from-residual-in_err-currency.result c.from-residual-in_err-currency.ensures.1 in
+pub returns-in_err-currency-in-len3-up : goal.returns-in_err-currency-in-len3-up
+returns-in_err-currency-in-len3-up c =
+    let p = err_from_is_err_and c.from_residual-in_err-currency-in-len3-up.result c.from_residual-in_err-currency-in-len3-up.ensures.1 in
     let three : 3 ≤ length c.args.words.now = search rules in
-    rw (p.1, p.2, split_is _ no_word three, ← c.in_ok-account.ensures, ← c.in_err-currency.ensures)
+    rw (p.1, p.2, split_is _ no_word three, ← c.in_ok-account-in-len3-up.ensures, ← c.in_err-currency-in-len3-up.ensures)
 
-pub returns-in_err-amount : goal.returns-in_err-amount
-returns-in_err-amount c =
-    let p = err_from_is_err_and c.from-residual-in_err-amount.result c.from-residual-in_err-amount.ensures.1 in
+pub returns-in_err-amount-in-len3-up : goal.returns-in_err-amount-in-len3-up
+returns-in_err-amount-in-len3-up c =
+    let p = err_from_is_err_and c.from_residual-in_err-amount-in-len3-up.result c.from_residual-in_err-amount-in-len3-up.ensures.1 in
     let three : 3 ≤ length c.args.words.now = search rules in
-    rw (p.1, p.2, split_is _ no_word three, ← c.in_ok-account.ensures, ← c.in_ok-currency.ensures, ← c.in_err-amount.ensures)
+    rw (p.1, p.2, split_is _ no_word three, ← c.in_ok-account-in-len3-up.ensures, ← c.in_ok-currency-in-len3-up.ensures, ← c.in_err-amount-in-len3-up.ensures)
 
-pub returns-in_err-shares : goal.returns-in_err-shares
-returns-in_err-shares c =
-    let p = err_from_is_err_and c.from-residual-in_err-shares.result c.from-residual-in_err-shares.ensures.1 in
+pub returns-in_err-shares-in-len3-up : goal.returns-in_err-shares-in-len3-up
+returns-in_err-shares-in-len3-up c =
+    let p = err_from_is_err_and c.from_residual-in_err-shares-in-len3-up.result c.from_residual-in_err-shares-in-len3-up.ensures.1 in
     let three : 3 ≤ length c.args.words.now = search rules in
-    rw (p.1, p.2, split_is _ no_word three, ← c.in_ok-account.ensures, ← c.in_ok-currency.ensures, ← c.in_ok-amount.ensures, ← c.in_err-shares.ensures)
+    rw (p.1, p.2, split_is _ no_word three, ← c.in_ok-account-in-len3-up.ensures, ← c.in_ok-currency-in-len3-up.ensures, ← c.in_ok-amount-in-len3-up.ensures, ← c.in_err-shares-in-len3-up.ensures)
 
-pub returns-in_ok-shares : goal.returns-in_ok-shares
-returns-in_ok-shares c =
+pub returns-in_ok-shares-in-len3-up : goal.returns-in_ok-shares-in-len3-up
+returns-in_ok-shares-in-len3-up c =
     let three : 3 ≤ length c.args.words.now = search rules in
-    rw (split_is _ no_word three, ← c.in_ok-account.ensures, ← c.in_ok-currency.ensures, ← c.in_ok-amount.ensures, ← c.in_ok-shares.ensures)
+    rw (split_is _ no_word three, ← c.in_ok-account-in-len3-up.ensures, ← c.in_ok-currency-in-len3-up.ensures, ← c.in_ok-amount-in-len3-up.ensures, ← c.in_ok-shares-in-len3-up.ensures)
 
 pub amount-requires : goal.amount-requires
 amount-requires c = All-get_or _ c.args.words.now 2 no_word (search rules) c.requires.readable

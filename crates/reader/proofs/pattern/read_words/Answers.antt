@@ -14,7 +14,7 @@ returns-in_default c =
 
 pub returns-in_err-request : goal.returns-in_err-request
 returns-in_err-request c =
-    let p = err_from_is_err_and c.from-residual.result c.from-residual.ensures.1 in
+    let p = err_from_is_err_and c.from_residual.result c.from_residual.ensures.1 in
     let some : 1 ≤ length c.args.words.now = search rules in
     rw (p.1, p.2, words_are _ no_word some, ← c.text.ensures, ← c.read_verb.ensures, ← c.in_err-request.ensures)
 

@@ -17,7 +17,7 @@ returns-in_err-request g c =
     let s = state_of g.L.Balances c.args.book.now in
     let tie = g.R.TieRule.tie c.args.rule.now in
     let line = c.args.line.now in
-    let p = err_from_is_err_and c.from-residual.result c.from-residual.ensures.1 in
+    let p = err_from_is_err_and c.from_residual.result c.from_residual.ensures.1 in
     let e = c.in_err-request.ensures.value in
     let state : (law : Lawful tie) → s ≡ after s (line_calls (ruled law) s line) = λ law. ap (λ (r : Result (Option Asked) Refusal). after s (read_calls (ruled law) s r)) e in
     rw (p.1, p.2) (record {

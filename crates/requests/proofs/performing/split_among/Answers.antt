@@ -17,7 +17,7 @@ pub returns-in_err-split : goal.returns-in_err-split
 returns-in_err-split g c =
     let s = state_of g.L.Balances c.args.book.now in
     let t = state_of g.L.Balances c.split.new.self in
-    let p = err_from_is_err_and c.from-residual.result c.from-residual.ensures.1 in
+    let p = err_from_is_err_and c.from_residual.result c.from_residual.ensures.1 in
     let tie = g.R.TieRule.tie c.args.rule.now in
     let call : Lawful tie → Call = λ law. split tie law c.args.division c.args.shares.now most_shares most_shares in
     let facts = c.in_err-split.ensures in

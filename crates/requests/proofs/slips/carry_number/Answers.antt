@@ -14,7 +14,7 @@ pub returns-in_err-slip : goal.returns-in_err-slip
 returns-in_err-slip g c =
     let s = state_of g.L.Balances c.args.book.now in
     let t = state_of g.L.Balances c.take_up.new.self in
-    let p = err_from_is_err_and c.from-residual.result c.from-residual.ensures.1 in
+    let p = err_from_is_err_and c.from_residual.result c.from_residual.ensures.1 in
     let e = c.in_err-slip.ensures.step in
     let state = not_taken_up s t c.args.number c.args.account _ e in
     rw (p.1, p.2) (record { value = not_taken_up_answer s t c.args.number c.args.account _ e; state = state; law = conserved_through s (carry_calls s c.args.number c.args.account) t state })

@@ -12,7 +12,7 @@ pub returns-in_err-booked : goal.returns-in_err-booked
 returns-in_err-booked g c =
     let s = state_of g.L.Balances c.args.book.now in
     let t = state_of g.L.Balances c.convert.new.self in
-    let p = err_from_is_err_and c.from-residual.result c.from-residual.ensures.1 in
+    let p = err_from_is_err_and c.from_residual.result c.from_residual.ensures.1 in
     let e = c.in_err-booked.ensures.step in
     let state = conversion_refused s t c.args.exchange _ e in
     rw (p.1, p.2) (record { value = answered s (convert c.args.exchange) _ t e; state = state; law = conserved_through s (conversion_calls s c.args.exchange) t state })

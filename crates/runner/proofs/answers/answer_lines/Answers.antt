@@ -14,7 +14,7 @@ loop-rest-init g c = ((omega arith, omega arith), λ law. going_start _ _ _ _)
 
 pub returns-in_err-write_answer : goal.returns-in_err-write_answer
 returns-in_err-write_answer g c =
-    let p = err_from_is_err_and c.from-residual.result c.from-residual.ensures.1 in
+    let p = err_from_is_err_and c.from_residual.result c.from_residual.ensures.1 in
     let some : 0 < length c.loop-rest.rest.now = grind (arith, nat_tests) in
     let t = state_of g.L.Balances c.loop-rest.book in
     let u = state_of g.L.Balances c.perform_line-outcome.new.book in

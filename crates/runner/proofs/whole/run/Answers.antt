@@ -39,7 +39,7 @@ returns-then-input-gt-MOST_INPUT g c =
 pub returns-in_err-answer_lines : goal.returns-in_err-answer_lines
 returns-in_err-answer_lines g c =
     let s = state_of g.L.Balances c.args.book.now in
-    let p = err_from_is_err_and c.from-residual.result c.from-residual.ensures.1 in
+    let p = err_from_is_err_and c.from_residual.result c.from_residual.ensures.1 in
     rw p.1 (record {
       transcript = λ law. tt;
       state = λ law. tt;

@@ -12,7 +12,7 @@ pub returns-in_err-booked : goal.returns-in_err-booked
 returns-in_err-booked g c =
     let s = state_of g.L.Balances c.args.self.now in
     let t = state_of g.L.Balances c.issue.new.self in
-    let p = err_from_is_err_and c.from-residual.result c.from-residual.ensures.1 in
+    let p = err_from_is_err_and c.from_residual.result c.from_residual.ensures.1 in
     let e = c.in_err-booked.ensures in
     rw (p.1, p.2) (record { step = e; marked = tt; law = still_conserved s (convert c.args.exchange) (Err (registered c.in_err-booked.field-0.0)) t e })
 

@@ -15,7 +15,7 @@ returns-in_err-take g c =
     let given = c.in_ok-given.given in
     let facts = c.in_ok-given.ensures in
     let kept = c.in_err-take.ensures in
-    let f = err_from_is_err_and c.from-residual-in_err-take.result c.from-residual-in_err-take.ensures.1 in
+    let f = err_from_is_err_and c.from_residual-in_err-take.result c.from_residual-in_err-take.ensures.1 in
     rw (f.1, f.2)
     (record {
       step = λ law. refused_settles s (take k given.portions, take k given.fractions) given.entry _ (g.L.Balances.meaning c.take.new.self) facts.value _ kept.refused kept.kept;

@@ -12,7 +12,7 @@ use Rattle.book.proofs.book.Book.propose_split.Goals as goal
 
 pub returns-in_err-apportion : goal.returns-in_err-apportion
 returns-in_err-apportion g c =
-    let p = err_from_is_err_and c.from-residual-in_err-apportion.result c.from-residual-in_err-apportion.ensures.1 in
+    let p = err_from_is_err_and c.from_residual-in_err-apportion.result c.from_residual-in_err-apportion.ensures.1 in
     let s = state_of g.L.Balances c.args.self.now in
     let tie = g.R.TieRule.tie c.args.rule.now in
     rw (p.1, p.2)

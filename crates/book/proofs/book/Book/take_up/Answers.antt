@@ -12,7 +12,7 @@ pub returns-in_err-number : goal.returns-in_err-number
 returns-in_err-number g c =
     let s = state_of g.L.Balances c.args.self.now in
     let t = state_of g.L.Balances c.reissue.new.self in
-    let p = err_from_is_err_and c.from-residual.result c.from-residual.ensures.1 in
+    let p = err_from_is_err_and c.from_residual.result c.from_residual.ensures.1 in
     let e = c.in_err-number.ensures in
     rw (p.1, p.2) (record { step = e; marked = tt; law = still_conserved s (take_up c.args.number) (Err (registered c.in_err-number.field-0.0)) t e })
 

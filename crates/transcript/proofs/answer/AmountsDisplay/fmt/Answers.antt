@@ -13,7 +13,7 @@ loop-amount-preserved g c plain =
     let i = c.loop-amount.amount-index in
     let none : Minor = record { 0 = pos 0 } in
     let so_far = c.loop-amount.invariant plain in
-    let more = c.in_ok-write.ensures.shows so_far.plain refl in
+    let more = c.in_ok-write.ensures.writes so_far.plain refl in
     has_written_of_eq g.W.Write.write_str_gives _ _ _ _ (flat_map_more amount_text [] (take i xs) (get_or xs i none) ∙ ap (flat_map amount_text) (sym (take_more xs i none c.loop-amount-test.true)))
     (has_written_append g.W.Write.write_str_gives _ _ _ _ _ so_far more)
 
