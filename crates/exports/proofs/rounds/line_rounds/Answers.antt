@@ -16,7 +16,7 @@ loop-round-preserved g c =
 pub returns-after-loop-round : goal.returns-after-loop-round
 returns-after-loop-round g c =
     let s = state_of g.L.Balances c.args.book.now in
-    let done : c.loop-round.-round ≡ c.args.rounds = search rules in
+    let done : c.loop-round._round ≡ c.args.rounds = search rules in
     λ law. c.loop-round.invariant law ∙ ap (λ (n : ℕ). line_rounds (ruled law) s c.args.line.now n) done
 
 pub returns-in-Ok-None : goal.returns-in-Ok-None

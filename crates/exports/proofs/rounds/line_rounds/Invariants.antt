@@ -7,4 +7,4 @@ use Rattle.exports.specs.Exports.{line_rounds}
 use Rattle.exports.proofs.rounds.line_rounds.Given as goal
 
 abbrev pub invariant-loop-round : goal.invariant-loop-round
-invariant-loop-round g l = (law : Lawful by_place) → state_of g.L.Balances l.book ≡ line_rounds (ruled law) (state_of g.L.Balances l.initial.book) l.line l.-round
+invariant-loop-round g l = (law : Lawful by_place) → state_of g.L.Balances l.book ≡ line_rounds (ruled law) (state_of g.L.Balances l.initial.book) l.line l._round

@@ -13,14 +13,14 @@ use Rattle.requests.specs.Requests.{ruled, request_calls, performed}
 use Rattle.requests.proofs.Sequences.{answered, one_call}
 use Rattle.requests.proofs.performing.perform.Goals as goal
 
-pub returns-in_err-post : goal.returns-in_err-post
-returns-in_err-post g c =
+pub returns-in_err-post-in-Post : goal.returns-in_err-post-in-Post
+returns-in_err-post-in-Post g c =
     let s = state_of g.L.Balances c.args.book.now in
     let t = state_of g.L.Balances c.post.new.self in
     let tie = g.R.TieRule.tie c.args.rule.now in
     let p = err_from_is_err_and c.from_residual.result c.from_residual.ensures.1 in
     let legs = c.as_slice.result.now in
-    let e = c.in_err-post.ensures.step in
+    let e = c.in_err-post-in-Post.ensures.step in
     let q : post legs ≡ asked c.args.request.now = ap post c.as_slice.ensures ∙ sym (ap asked c.in-Post.is) in
     let state : (law : Lawful tie) → t ≡ after s (request_calls (ruled law) s (asked c.args.request.now)) = λ law. one_call s (calls.post legs) _ t e ∙ ap (λ (a : Asked). after s (request_calls (ruled law) s a)) q in
     rw (p.1, p.2) (record {
@@ -29,13 +29,13 @@ returns-in_err-post g c =
       law = λ law. conserved_through s _ t (state law);
     })
 
-pub returns-in_ok-post : goal.returns-in_ok-post
-returns-in_ok-post g c =
+pub returns-in_ok-post-in-Post : goal.returns-in_ok-post-in-Post
+returns-in_ok-post-in-Post g c =
     let s = state_of g.L.Balances c.args.book.now in
     let t = state_of g.L.Balances c.post.new.self in
     let tie = g.R.TieRule.tie c.args.rule.now in
     let legs = c.as_slice.result.now in
-    let e = c.in_ok-post.ensures.step in
+    let e = c.in_ok-post-in-Post.ensures.step in
     let q : post legs ≡ asked c.args.request.now = ap post c.as_slice.ensures ∙ sym (ap asked c.in-Post.is) in
     let state : (law : Lawful tie) → t ≡ after s (request_calls (ruled law) s (asked c.args.request.now)) = λ law. one_call s (calls.post legs) _ t e ∙ ap (λ (a : Asked). after s (request_calls (ruled law) s a)) q in
     record {
@@ -44,15 +44,15 @@ returns-in_ok-post g c =
       law = λ law. conserved_through s _ t (state law);
     }
 
-pub returns-in_err-moved : goal.returns-in_err-moved
-returns-in_err-moved g c =
+pub returns-in_err-moved-in-Sweep : goal.returns-in_err-moved-in-Sweep
+returns-in_err-moved-in-Sweep g c =
     let s = state_of g.L.Balances c.args.book.now in
     let t = state_of g.L.Balances c.sweep.new.self in
     let tie = g.R.TieRule.tie c.args.rule.now in
-    let p = err_from_is_err_and c.from_residual-in_err-moved.result c.from_residual-in_err-moved.ensures.1 in
+    let p = err_from_is_err_and c.from_residual-in_err-moved-in-Sweep.result c.from_residual-in_err-moved-in-Sweep.ensures.1 in
     let account = c.in-Sweep.account in
     let column = c.in-Sweep.column in
-    let e = c.in_err-moved.ensures.step in
+    let e = c.in_err-moved-in-Sweep.ensures.step in
     let q : sweep account column ≡ asked c.args.request.now = sym (ap asked c.in-Sweep.is) in
     let state : (law : Lawful tie) → t ≡ after s (request_calls (ruled law) s (asked c.args.request.now)) = λ law. one_call s (calls.sweep account column) _ t e ∙ ap (λ (a : Asked). after s (request_calls (ruled law) s a)) q in
     rw (p.1, p.2) (record {
@@ -61,14 +61,14 @@ returns-in_err-moved g c =
       law = λ law. conserved_through s _ t (state law);
     })
 
-pub returns-in_ok-moved : goal.returns-in_ok-moved
-returns-in_ok-moved g c =
+pub returns-in_ok-moved-in-Sweep : goal.returns-in_ok-moved-in-Sweep
+returns-in_ok-moved-in-Sweep g c =
     let s = state_of g.L.Balances c.args.book.now in
     let t = state_of g.L.Balances c.sweep.new.self in
     let tie = g.R.TieRule.tie c.args.rule.now in
     let account = c.in-Sweep.account in
     let column = c.in-Sweep.column in
-    let e = c.in_ok-moved.ensures.step in
+    let e = c.in_ok-moved-in-Sweep.ensures.step in
     let q : sweep account column ≡ asked c.args.request.now = sym (ap asked c.in-Sweep.is) in
     let state : (law : Lawful tie) → t ≡ after s (request_calls (ruled law) s (asked c.args.request.now)) = λ law. one_call s (calls.sweep account column) _ t e ∙ ap (λ (a : Asked). after s (request_calls (ruled law) s a)) q in
     record {
