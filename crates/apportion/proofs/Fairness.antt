@@ -1,5 +1,5 @@
 -- Every split is fair. Assumes nothing.
-use Rattle.std.proofs.Common.{◌≡◌, ℕ, ◌+◌, ◌*◌, ◌<◌, Bool, true, false, cond, ltb, ◌⊎◌, List, map, length, take, drop, ℤ, pos, ◌+ℤ◌, nat_abs, sym, ap, ◌∙◌, inl, inr, ⊎_elim, mul_comm, add-mul, one-mul, mul-zero, zero-mul, mul-one, arith}
+use Rattle.std.proofs.Common.{◌≡◌, ℕ, ◌+◌, ◌*◌, ◌<◌, Bool, true, false, cond, ltb, List, map, length, take, drop, pos, ◌+ℤ◌, nat_abs, sym, ap, ◌∙◌, inl, inr, ⊎_elim, mul_comm, add-mul, one-mul, mul-zero, zero-mul, mul-one, arith}
 use Rattle.std.specs.List.{range_with_len}
 use Rattle.std.proofs.lemmas.List.FromFn.{get_or-map-range_with_len, length-map-range_with_len}
 use Rattle.std.proofs.lemmas.List.{take_at}

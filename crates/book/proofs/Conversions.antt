@@ -1,5 +1,5 @@
 -- A conversion that the book does not refuse, and the movement of its issue. Assumes nothing.
-use Rattle.std.proofs.Common.{◌≡◌, ℕ, ◌+◌, ◌<◌, true, [], ◌∷◌, length, Some, Ok, ◌∙◌}
+use Rattle.std.proofs.Common.{◌≡◌, ◌+◌, ◌<◌, true, [], ◌∷◌, length, Some, Ok, ◌∙◌}
 use Rattle.std.proofs.lemmas.Bool.{lt-ltb}
 use Rattle.money.specs.declared.conversion.Conversion.{Conversion}
 use Rattle.money.specs.declared.conversion.Route.{Route}

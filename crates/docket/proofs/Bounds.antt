@@ -1,5 +1,5 @@
 -- The bounds of a record's residues, as a test and as facts. Assumes nothing.
-use Rattle.std.proofs.Common.{◌≡◌, ℕ, zero, suc, ◌<◌, true, ◌&&◌, leb, List, [], ◌∷◌, length, get_or, set, nat_abs, refl, arith}
+use Rattle.std.proofs.Common.{◌≡◌, ℕ, zero, suc, ◌<◌, true, leb, List, [], ◌∷◌, length, get_or, set, nat_abs, refl, arith}
 use Rattle.std.proofs.lemmas.Bool.{and_parts, and_from, leb-true, le-leb}
 use Rattle.money.specs.Conversions.{most_amount}
 use Rattle.model.specs.declared.record.Record.{Record}

@@ -1,5 +1,5 @@
 -- Few records cannot bring a cell to its limits. Assumes nothing.
-use Rattle.std.proofs.Common.{◌≡◌, ℕ, ◌+◌, ◌-◌, ◌*◌, ◌≤◌, min, true, List, [], ◌∷◌, length, pos, neg_ℤ, nat_abs, Ok, sym, refl, ap, ◌∙◌, ⊎_elim, arith}
+use Rattle.std.proofs.Common.{◌≡◌, ℕ, ◌+◌, ◌*◌, ◌≤◌, min, true, List, [], ◌∷◌, length, pos, neg_ℤ, nat_abs, Ok, sym, refl, ap, ◌∙◌, ⊎_elim, arith}
 use borrow.Author.Differences.{ints, true_is_le}
 use Rattle.std.specs.List.{AllByRecursion as All}
 use Rattle.std.proofs.lemmas.List.{length-take}

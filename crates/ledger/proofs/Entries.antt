@@ -1,5 +1,5 @@
 -- The test whether legs make an entry says yes exactly if they do. Assumes nothing.
-use Rattle.std.proofs.Common.{◌≡◌, ℕ, zero, ◌+◌, ◌<◌, ◌≤◌, true, ◌&&◌, ◌≢◌, List, [], ◌∷◌, length, get_or, drop, ℤ, pos, negsuc, Decides, refl, ap, subst, arith}
+use Rattle.std.proofs.Common.{◌≡◌, ℕ, ◌+◌, ◌<◌, ◌≤◌, true, ◌&&◌, ◌≢◌, List, [], ◌∷◌, length, get_or, drop, ℤ, pos, negsuc, Decides, refl, ap, subst, arith}
 use Rattle.std.specs.List.{AllByRecursion as All}
 use Rattle.std.proofs.lemmas.List.{at_drop_more, at_drop_all}
 use Rattle.std.proofs.lemmas.Bool.{and_parts, and_from, leb-true, le-leb, eqb-true}

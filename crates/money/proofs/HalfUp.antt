@@ -1,5 +1,5 @@
 -- Half-up, its bounds, and that it is the nearest whole number. Assumes nothing.
-use Rattle.std.proofs.Common.{◌≡◌, ℕ, suc, ◌+◌, ◌-◌, ◌*◌, ◌/◌, ◌%◌, ◌<◌, ◌≤◌, ◌⊎◌, sym, refl, ap, ◌∙◌, subst, inl, inr, ⊎_elim, mul-le-mul_right, mod-lt, mul_comm, mul-le-mul_left, div-add-mod', mul-suc, mul_left_comm, add-one, arith}
+use Rattle.std.proofs.Common.{◌≡◌, ℕ, ◌+◌, ◌-◌, ◌*◌, ◌/◌, ◌%◌, ◌<◌, ◌≤◌, sym, ap, ◌∙◌, subst, inl, inr, mul-le-mul_right, mod-lt, mul_comm, mul-le-mul_left, div-add-mod', mul-suc, mul_left_comm, add-one, arith}
 use Rattle.std.proofs.lemmas.Bool.{cases_order}
 use Rattle.money.specs.Rounding.{half_up, Nearest, distance, HalfUpIsNearest}
 

@@ -1,7 +1,6 @@
 -- Every conversion accounts for its exact amounts. Assumes nothing.
 use Rattle.std.proofs.Common.{◌≡◌, ℕ, ◌*◌, ◌<◌, sym, subst, arith}
 use Rattle.std.proofs.lemmas.Int.{ints}
-use Rattle.money.specs.declared.currency.National.{National}
 use Rattle.money.specs.declared.conversion.Route.{Route}
 use Rattle.money.specs.declared.conversion.Route.TheVariants.{IntoEuro, FromEuro, Between}
 use Rattle.money.specs.declared.conversion.Conversion.{Conversion}

@@ -1,5 +1,5 @@
 -- Conversions reckoned by hand: what is booked, the mills on the way, and the residues. Assumes nothing.
-use Rattle.std.specs.Prelude.{◌≡◌, ℕ, ℤ, pos, neg_ℤ, Ok, Err, Result}
+use Rattle.std.specs.Prelude.{◌≡◌, ℕ, pos, neg_ℤ, Ok}
 use Rattle.money.specs.declared.currency.National.TheVariants.{Bef, Dem, Frf, Itl, Luf}
 use Rattle.money.specs.declared.currency.Currency.{Currency}
 use Rattle.money.specs.declared.currency.Currency.TheVariants.{Euro, National as Of}

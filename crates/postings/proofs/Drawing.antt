@@ -1,15 +1,14 @@
 -- Legs drawn up one after the other are those legs, or void where they make no entry. Assumes nothing.
-use Rattle.std.proofs.Common.{◌≡◌, ℕ, ◌+◌, ◌<◌, ◌≤◌, Bool, true, false, cond, ◌&&◌, ltb, leb, ◌⊎◌, List, [], ◌∷◌, ◌++◌, length, take, ℤ, nat_abs, Some, None, Option, sym, refl, ap, ◌∙◌, inl, inr, ⊎_elim, arith}
+use Rattle.std.proofs.Common.{◌≡◌, ℕ, ◌+◌, ◌<◌, ◌≤◌, Bool, true, false, cond, ◌&&◌, ltb, leb, ◌⊎◌, List, [], ◌∷◌, ◌++◌, length, ℤ, nat_abs, Some, None, Option, sym, refl, ap, ◌∙◌, inl, inr, ⊎_elim, arith}
 use Rattle.std.specs.List.{AllByRecursion as All}
 use Rattle.std.proofs.lemmas.List.{append-nil, append_assoc, length-append}
 use Rattle.std.proofs.lemmas.Bool.{cond-true, cond-false, cases_Bool, and_from, and_parts, le-leb, leb-true, lt-ltb, ltb-true}
 use Rattle.money.specs.Conversions.{most_amount}
 use Rattle.ledger.specs.declared.leg.Leg.{Leg}
-use Rattle.ledger.specs.Entries.{most_legs, most_account, most_column, InRange, EntryLegs, in_range, is_entry}
-use Rattle.ledger.proofs.Entries.{entry_legs_lem, legs_entry}
+use Rattle.ledger.specs.Entries.{most_legs, most_account, most_column, InRange, in_range, is_entry}
+use Rattle.ledger.proofs.Entries.{entry_legs_lem}
 use Rattle.ledger.specs.Legs.{leg}
-use Rattle.postings.specs.declared.draft.Draft.{Draft}
-use Rattle.postings.specs.Drafts.{drawn, with_leg, with_legs, entry_legs, entry_in}
+use Rattle.postings.specs.Drafts.{with_leg, with_legs, entry_legs, entry_in}
 
 -- what a draft takes is what its length and validity say
 pub with_leg_is : (valid : Bool) (ls : List Leg) (n : ℕ) (l : Leg) → length ls ≡ n

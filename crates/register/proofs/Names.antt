@@ -1,5 +1,5 @@
 -- Each number of the register is one cause's, and a refusal names its fault. Assumes nothing.
-use Rattle.std.proofs.Common.{◌≡◌, ℕ, zero, suc, ◌+◌, ◌-◌, ◌<◌, ◌≤◌, Bool, true, false, ◌&&◌, eqb, List, [], ◌∷◌, length, get_or, Some, sym, refl, ap, ◌∙◌, arith}
+use Rattle.std.proofs.Common.{◌≡◌, ℕ, zero, suc, ◌+◌, ◌-◌, ◌<◌, ◌≤◌, Bool, true, ◌&&◌, eqb, List, [], ◌∷◌, length, get_or, Some, sym, refl, ap, ◌∙◌, arith}
 use Rattle.std.proofs.lemmas.Bool.Decides.{nat_tests}
 use Rattle.register.specs.declared.cause.ReaderCause.{ReaderCause}
 use Rattle.register.specs.declared.cause.ReaderCause.TheVariants.{UnreadableWord, UnknownPattern, InputTooLong}
@@ -10,7 +10,7 @@ use Rattle.register.specs.declared.cause.LedgerCause.TheVariants.{NoRoom, Outsid
 use Rattle.register.specs.declared.fault.Fault.{Fault}
 use Rattle.register.specs.declared.fault.Fault.TheVariants.{Reader, Book, Ledger}
 use Rattle.register.specs.declared.fault.Part.TheVariants.{Reader as R, Book as B, Ledger as L}
-use Rattle.register.specs.Register.{Refusal, registered, reader_number, book_number, ledger_number}
+use Rattle.register.specs.Register.{registered, reader_number, book_number, ledger_number}
 use Rattle.register.specs.Laws.{NamesEachFault}
 
 abbrev of_reader : ReaderCause → Fault

@@ -1,16 +1,15 @@
 -- Requests leave no slip out. Assumes nothing.
-use Rattle.std.proofs.Common.{◌≡◌, ℕ, zero, suc, Bool, true, cond, eqb, ◌⊎◌, List, [], ◌∷◌, ◌++◌, Some, None, Ok, Err, Option, Result, sym, refl, ap, ◌∙◌, subst, inl, inr, ⊎_elim, arith}
+use Rattle.std.proofs.Common.{◌≡◌, ℕ, zero, suc, true, cond, eqb, List, [], ◌∷◌, ◌++◌, Some, None, Ok, Err, Option, Result, sym, refl, ap, ◌∙◌, subst, inl, ⊎_elim, arith}
 use Rattle.std.proofs.lemmas.Bool.{cases_eq, eq-eqb, ne_eqb, cond-true, cond-false}
 use Rattle.register.specs.Register.{Refusal}
 use Rattle.money.specs.declared.quantity.Minor.{Minor}
 use Rattle.ledger.specs.Meaning.{Meaning}
-use Rattle.model.specs.declared.record.Standing.{Standing}
 use Rattle.model.specs.declared.record.Standing.TheVariants.{Out, Parked}
 use Rattle.model.specs.declared.request.Exchange.{Exchange}
 use Rattle.model.specs.Calls as calls
 use Rattle.model.specs.Calls.{Call, Reply}
 use Rattle.model.specs.Conservation.{EachAccepted, Due, Ours, Conserved}
-use Rattle.model.specs.History.{Event, event, after, events, Mention, none, gives, parks, retakes, carries, parking_of, mention, Status, never, held, carried as carried_to, becomes, status}
+use Rattle.model.specs.History.{Event, event, after, events, Mention, none, gives, parking_of, mention, Status, never, held, carried as carried_to, becomes, status}
 use Rattle.model.specs.State.{State, opened}
 use Rattle.model.specs.Step.{step}
 use Rattle.model.proofs.EveryCall.{every_call}

@@ -1,5 +1,5 @@
 -- Calls on slips one after another, as the requests tell them. Assumes nothing.
-use Rattle.std.proofs.Common.{◌≡◌, ℕ, List, [], ◌∷◌, ◌++◌, Ok, Err, Result, sym, refl, ap, ◌∙◌}
+use Rattle.std.proofs.Common.{◌≡◌, ℕ, [], ◌∷◌, ◌++◌, Ok, Err, Result, sym, ap, ◌∙◌}
 use Rattle.register.specs.Register.{Refusal}
 use Rattle.money.specs.declared.quantity.Minor.{Minor}
 use Rattle.model.specs.declared.request.Exchange.{Exchange}

@@ -4,7 +4,7 @@ use Rattle.std.proofs.lemmas.List.{drop_more, set_at, replicate_more, length-rep
 use Rattle.std.proofs.lemmas.Bool.{cond-true, cond-false, cond_both, le-leb, lt-leb, and_parts, ltb-true}
 use Rattle.ledger.specs.Limits.{listed, accounts, columns}
 use Rattle.ledger.proofs.Meanings.{same_meaning}
-use Rattle.sheet.specs.Cells.{sheet_cells, long, place_of, sheet_cell, sheet_over, sheet_opened, cleared, most_room}
+use Rattle.sheet.specs.Cells.{sheet_cells, place_of, sheet_cell, sheet_over, sheet_opened, cleared, most_room}
 
 -- one more cell is cleared
 pub cleared_more : (xs : List ℤ) (i : ℕ) → i < length xs → set (replicate i (pos 0) ++ drop i xs) i (pos 0) ≡ replicate (i + 1) (pos 0) ++ drop (i + 1) xs

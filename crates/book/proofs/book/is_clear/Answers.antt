@@ -1,5 +1,5 @@
 -- One column more, all columns, or one that is not clear. Assumes nothing.
-use Rattle.std.proofs.Common.{◌≡◌, sym, ap, ◌∙◌, arith}
+use Rattle.std.proofs.Common.{sym, ap, ◌∙◌, arith}
 use Rattle.model.specs.State.{all_below, clear_at}
 use Rattle.book.proofs.Below.{below_none, below_more, below_not}
 use Rattle.book.proofs.book.is_clear.Goals as goal

@@ -1,11 +1,9 @@
 -- One record more is in the row, and all are at the end. Assumes nothing.
-use Rattle.std.proofs.Common.{◌≡◌, ◌+◌, true, false, List, get_or, set, ℤ, pos, sym, ap, ◌∙◌, subst, arith}
+use Rattle.std.proofs.Common.{◌≡◌, ◌+◌, true, List, get_or, set, ℤ, pos, sym, ap, ◌∙◌, subst, arith}
 use Rattle.std.proofs.lemmas.Int.{ints}
-use Rattle.ledger.specs.declared.leg.Leg.{Leg}
 use Rattle.ledger.specs.Entries.{in_range}
 use Rattle.ledger.specs.Legs.{leg}
 use Rattle.ledger.proofs.Rises.{in_cell_off}
-use Rattle.journal.specs.Journal.{recorded}
 use Rattle.journal.proofs.Records.{elsewhere, no_leg}
 use Rattle.journal.proofs.Rows.{Row, in_range_lem, row_none, row_same, row_more, row-all}
 use Rattle.journal.proofs.sums.recorded_row.Goals as goal

@@ -1,7 +1,6 @@
 -- Assumes nothing.
-use Rattle.std.proofs.Common.{◌≡◌, ap, ◌∙◌, rules}
+use Rattle.std.proofs.Common.{◌≡◌, ap, rules}
 use Rattle.money.specs.Conversions.{exact_from, rounded_to}
-use Rattle.money.specs.Rounding.{half_up}
 use Rattle.money.specs.Table.{rate}
 use Rattle.money.proofs.Bounds.{mills_bound}
 use Rattle.money.proofs.conversion.mills_from.Goals as goal

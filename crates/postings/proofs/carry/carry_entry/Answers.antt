@@ -1,5 +1,5 @@
 -- The residues are all the legs. Assumes nothing.
-use Rattle.std.proofs.Common.{◌≡◌, ap, ◌∙◌}
+use Rattle.std.proofs.Common.{ap, ◌∙◌}
 use Rattle.model.specs.Postings.{carry_legs}
 use Rattle.postings.specs.Drafts.{entry_in, with_legs}
 use Rattle.postings.proofs.Drawing.{drawn_up}

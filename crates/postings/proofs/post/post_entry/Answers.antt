@@ -5,7 +5,7 @@ use Rattle.std.proofs.lemmas.Bool.{cond-true}
 use Rattle.register.specs.Register.{by_book, book_number}
 use Rattle.ledger.specs.Entries.{most_legs}
 use Rattle.ledger.proofs.Entries.{legs_entry}
-use Rattle.model.specs.Step.{least_legs, posted_legs}
+use Rattle.model.specs.Step.{posted_legs}
 use Rattle.postings.proofs.Posting.{posted_uncounted, posted_unread, posted_read, read_entry}
 use Rattle.postings.proofs.post.post_entry.Goals as goal
 use Rattle.postings.proofs.post.post_entry.Goals.{In_ok-legs}

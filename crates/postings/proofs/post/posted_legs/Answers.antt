@@ -1,8 +1,7 @@
 -- One leg more, the refusal of one, or none left. Assumes nothing.
-use Rattle.std.proofs.Common.{◌≡◌, ◌+◌, ◌<◌, [], ◌∷◌, ◌++◌, length, get_or, take, drop, Ok, Err, Result, sym, ap, ◌∙◌, arith, length-set}
+use Rattle.std.proofs.Common.{◌≡◌, ◌+◌, ◌<◌, [], ◌∷◌, ◌++◌, length, get_or, take, drop, Ok, sym, ap, ◌∙◌, arith, length-set}
 use Rattle.std.proofs.lemmas.List.{take_more_set}
 use Rattle.std.proofs.lemmas.Result.{err_from_is_err_and}
-use Rattle.register.specs.Register.{Refusal}
 use Rattle.model.specs.Results.{and_then}
 use Rattle.model.specs.Step.{posted_leg, posted_legs}
 use Rattle.postings.proofs.Posting.{joined, no_posting, postings_more, postings_end}

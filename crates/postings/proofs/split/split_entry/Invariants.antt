@@ -1,6 +1,5 @@
 -- The legs drawn and those left are all. Assumes nothing.
 use Rattle.std.proofs.Common.{◌≡◌, drop}
-use Rattle.money.specs.Table.{number_of}
 use Rattle.model.specs.Postings.{portion_legs}
 use Rattle.postings.specs.Drafts.{drawn, with_legs}
 use Rattle.postings.proofs.split.split_entry.Given as goal

@@ -1,6 +1,6 @@
 -- Cut toward zero, and at most the limit. Assumes nothing.
 use Rattle.std.proofs.Common.{◌≡◌, ℤ, pos, sym, ap, ◌∙◌, subst, w64, to_z, of_z}
-use lib.Signed.{quot_z, lt_z}
+use lib.Signed.{quot_z}
 use Rattle.ledger.specs.Columns.{whole_parts}
 use Rattle.model.specs.Postings.{most_swept, within, sweepable}
 use Rattle.postings.specs.Sweeps.{Swept}

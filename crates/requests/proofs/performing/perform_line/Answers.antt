@@ -1,5 +1,5 @@
 -- A line that is refused or asks for nothing makes no call. Assumes nothing.
-use Rattle.std.proofs.Common.{◌≡◌, None, Ok, Err, Option, Result, sym, ap, ◌∙◌}
+use Rattle.std.proofs.Common.{◌≡◌, None, Ok, Option, Result, sym, ap, ◌∙◌}
 use Rattle.std.specs.Option.{option_map}
 use Rattle.std.proofs.lemmas.Result.{err_from_is_err_and}
 use Rattle.register.specs.Register.{Refusal}

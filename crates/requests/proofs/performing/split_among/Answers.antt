@@ -1,5 +1,5 @@
 -- The step of a split, with lists as long as there may be shares. Assumes nothing.
-use Rattle.std.proofs.Common.{◌≡◌, List, Result, ap, ◌∙◌}
+use Rattle.std.proofs.Common.{List, Result, ap}
 use Rattle.std.proofs.lemmas.Result.{err_from_is_err_and}
 use Rattle.register.specs.Register.{Refusal}
 use Rattle.money.specs.declared.quantity.Minor.{Minor}

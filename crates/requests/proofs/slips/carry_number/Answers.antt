@@ -1,5 +1,5 @@
 -- The take-up, the carry and, where that is refused, the parking. Assumes nothing.
-use Rattle.std.proofs.Common.{◌≡◌, Ok, Err, subst}
+use Rattle.std.proofs.Common.{Ok, Err, subst}
 use Rattle.std.proofs.lemmas.Result.{err_from_is_err_and}
 use Rattle.register.specs.Register.{registered}
 use Rattle.model.specs.Calls.{park}

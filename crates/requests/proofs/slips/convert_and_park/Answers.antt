@@ -1,5 +1,5 @@
 -- The conversion, then the parking of its slip. Assumes nothing.
-use Rattle.std.proofs.Common.{◌≡◌, Ok, Err, ◌∙◌}
+use Rattle.std.proofs.Common.{Ok, ◌∙◌}
 use Rattle.std.proofs.lemmas.Result.{err_from_is_err_and}
 use Rattle.model.specs.Calls.{convert}
 use Rattle.model.proofs.Runs.{conserved_through}

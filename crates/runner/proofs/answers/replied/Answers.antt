@@ -1,8 +1,8 @@
 -- The portions as numbers. Assumes nothing.
-use Rattle.std.proofs.Common.{◌≡◌, ℕ, List, ◌++◌, codes, sym, ap, ◌∙◌}
+use Rattle.std.proofs.Common.{ℕ, List, ◌++◌, codes, sym, ap, ◌∙◌}
 use Rattle.std.specs.List.{flat_map}
 use Rattle.money.specs.declared.quantity.Minor.{Minor}
-use Rattle.requests.specs.Requests.{numbers, amounts}
+use Rattle.requests.specs.Requests.{numbers}
 use Rattle.transcript.specs.Text.{amount_text}
 use Rattle.runner.specs.Answers.{number_text}
 use Rattle.runner.proofs.Joining.{joined-map}

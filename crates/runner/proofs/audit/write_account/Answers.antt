@@ -7,7 +7,7 @@ use Rattle.ledger.proofs.Meanings.{row_reads}
 use Rattle.transcript.specs.declared.audit.Cell.{Cell}
 use Rattle.transcript.specs.Text.{cell_text}
 use Rattle.book.specs.View.{state_of}
-use Rattle.runner.specs.Audit.{cell_at, cells_of}
+use Rattle.runner.specs.Audit.{cell_at}
 use Rattle.runner.proofs.Listing.{cells_none, cells_same, text_kept, count_kept, not_zero, zero_is}
 use Rattle.runner.proofs.audit.write_account.Goals as goal
 use Rattle.runner.proofs.audit.write_account.Goals.{then-amount-ne0+in_ok-append, else-amount-ne0}

@@ -1,5 +1,5 @@
 -- One account more is written. Assumes nothing.
-use Rattle.std.proofs.Common.{◌≡◌, ℕ, ◌+◌, List, ◌++◌, length, string_bytes, sym, ap, ◌∙◌, append-nil, arith}
+use Rattle.std.proofs.Common.{ℕ, ◌+◌, List, ◌++◌, length, string_bytes, sym, ap, ◌∙◌, append-nil, arith}
 use Rattle.std.specs.List.{flat_map}
 use Rattle.ledger.specs.Limits.{columns}
 use Rattle.transcript.specs.declared.audit.Cell.{Cell}

@@ -1,10 +1,9 @@
 -- An input that is too long, and one whose lines are done. Assumes nothing.
-use Rattle.std.proofs.Common.{◌≡◌, ℕ, ◌<◌, ◌≤◌, List, [], ◌++◌, length, Err, string_bytes, sym, refl, ap, ◌∙◌, append_assoc, arith}
+use Rattle.std.proofs.Common.{◌≡◌, ℕ, List, [], ◌++◌, length, Err, string_bytes, sym, refl, ap, ◌∙◌, append_assoc, arith}
 use Rattle.std.proofs.lemmas.Result.{err_from_is_err_and, IfOk-weaker}
 use Rattle.std.proofs.lemmas.Bool.{le-leb, lt-leb, cond-true, cond-false}
 use Rattle.register.specs.Register.{by_reader}
 use Rattle.apportion.specs.Ties.{Lawful}
-use Rattle.model.specs.Calls.{Call}
 use Rattle.model.specs.History.{after}
 use Rattle.model.proofs.Runs.{conserved_through}
 use Rattle.reader.specs.Lines.{lines_of}

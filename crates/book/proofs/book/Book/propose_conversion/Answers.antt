@@ -1,5 +1,5 @@
 -- The entry has the legs of the conversion, and the docket takes its record. Assumes nothing.
-use Rattle.std.proofs.Common.{◌≡◌, ◌+◌, ◌<◌, length, Ok, sym, ap, ◌∙◌, subst, arith}
+use Rattle.std.proofs.Common.{◌+◌, ◌<◌, length, Ok, sym, ap, ◌∙◌, subst, arith}
 use Rattle.docket.specs.Records.{Bounded}
 use Rattle.model.specs.Docket.{most_records}
 use Rattle.postings.proofs.Valid.{conversion_entry}

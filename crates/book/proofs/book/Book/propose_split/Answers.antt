@@ -1,5 +1,5 @@
 -- The apportionment refuses, or the entry has the legs of the split. Assumes nothing.
-use Rattle.std.proofs.Common.{◌≡◌, ◌-◌, ◌≤◌, length, take, nat_abs, Ok, sym, refl, ap, ◌∙◌, arith}
+use Rattle.std.proofs.Common.{◌≡◌, ◌-◌, ◌≤◌, length, take, nat_abs, Ok, sym, ap, ◌∙◌, arith}
 use Rattle.std.proofs.lemmas.Result.{err_from_is_err_and}
 use Rattle.apportion.specs.Refusals.{verdict}
 use Rattle.apportion.specs.Splits.{portions, fractions}

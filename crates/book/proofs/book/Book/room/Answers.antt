@@ -1,5 +1,4 @@
 -- Assumes nothing.
-use Rattle.std.proofs.Common.{refl}
 use Rattle.model.specs.Calls.{room}
 use Rattle.book.specs.View.{state_of}
 use Rattle.book.proofs.Asked.{asked_conserves}

@@ -1,5 +1,5 @@
 -- The ledger's row, and the law of each of its cells. Assumes nothing.
-use Rattle.std.proofs.Common.{◌≡◌, List, get_or, ℤ, pos, ap, ◌∙◌}
+use Rattle.std.proofs.Common.{List, get_or, ℤ, pos, ap, ◌∙◌}
 use Rattle.ledger.proofs.Meanings.{row_reads}
 use Rattle.model.specs.Calls.{cell}
 use Rattle.book.specs.View.{state_of}

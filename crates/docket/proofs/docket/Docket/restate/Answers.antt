@@ -1,5 +1,5 @@
 -- A write of the standing keeps the bounds, and restates the record. Assumes nothing.
-use Rattle.std.proofs.Common.{◌≡◌, ◌<◌, length, arith, rules}
+use Rattle.std.proofs.Common.{◌<◌, length, arith, rules}
 use Rattle.docket.proofs.Bounds.{bounded_at, all_bounded-set}
 use Rattle.docket.proofs.Places.{restate_some, restate_none, blank}
 use Rattle.docket.proofs.docket.Docket.restate.Goals as goal

@@ -1,5 +1,5 @@
 -- Each turn moves one record up; in the end one is gone. Assumes nothing.
-use Rattle.std.proofs.Common.{◌≡◌, ◌+◌, ◌-◌, ◌<◌, length, take, drop, refl, ap, ◌∙◌, arith, rules}
+use Rattle.std.proofs.Common.{◌+◌, ◌-◌, ◌<◌, length, take, drop, refl, ap, ◌∙◌, arith, rules}
 use Rattle.std.proofs.lemmas.List.Edits.{paste_none}
 use Rattle.docket.proofs.Bounds.{bounded_at, all_bounded-set}
 use Rattle.docket.proofs.Places.{strike_more, strike_some, strike_none, blank}

@@ -1,5 +1,5 @@
 -- The row of the records taken. Assumes nothing.
-use Rattle.std.proofs.Common.{◌≡◌, List, length, ap, ◌∙◌, arith}
+use Rattle.std.proofs.Common.{List, length, ap, ◌∙◌, arith}
 use Rattle.ledger.specs.declared.leg.Leg.{Leg}
 use Rattle.ledger.proofs.Meanings.{row_is}
 use Rattle.journal.specs.Journal.{recorded, journal_records, journal_meaning}

@@ -1,8 +1,7 @@
 -- Assumes nothing.
-use Rattle.std.proofs.Common.{◌≡◌, ℕ, true, cond, ◌&&◌, ℤ, pos, negsuc, nat_abs, ◌≤ℤ◌, Ok, Err, Result, sym, refl, ap, ◌∙◌, subst, arith, w64, SFits, rules}
+use Rattle.std.proofs.Common.{◌≡◌, true, ℤ, pos, nat_abs, Ok, ap, ◌∙◌, subst, arith, w64, SFits, rules}
 use lib.Signed.{le_z}
 use Rattle.std.proofs.lemmas.Int.{ints, to_z-of_z}
-use Rattle.register.specs.Register.{Refusal}
 use Rattle.money.specs.declared.conversion.Route.{Route}
 use Rattle.money.specs.declared.quantity.Minor.{Minor}
 use Rattle.money.specs.declared.conversion.Conversion.{Conversion}

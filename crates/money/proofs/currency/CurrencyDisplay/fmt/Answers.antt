@@ -2,7 +2,6 @@
 use Rattle.std.proofs.Common.{◌≡◌, ℕ, List, ◌++◌, get_or, refl, ap, ◌∙◌, subst}
 use lib.Utf8.{encode}
 use Rattle.std.specs.Fmt.{HasWritten}
-use Rattle.money.specs.declared.currency.National.{National}
 use Rattle.money.specs.declared.currency.National.TheVariants.{Bef, Dem, Esp, Frf, Iep, Itl, Luf, Nlg, Ats, Pte, Fim}
 use Rattle.money.specs.declared.currency.Currency.{Currency}
 use Rattle.money.specs.declared.currency.Currency.TheVariants.{Euro, National as Of}

@@ -1,5 +1,5 @@
 -- Assumes nothing.
-use Rattle.std.proofs.Common.{◌≡◌, ◌*◌, pos, ◌-ℤ◌, sym, refl, ap, ◌∙◌, arith}
+use Rattle.std.proofs.Common.{◌≡◌, ◌*◌, ap, arith}
 use Rattle.std.proofs.lemmas.Int.{ints}
 use Rattle.money.specs.Rounding.{half_up, residue_of}
 use Rattle.money.proofs.HalfUp.{Rounds, rounds_at, rounds_small}

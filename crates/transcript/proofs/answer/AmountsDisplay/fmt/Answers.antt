@@ -1,5 +1,5 @@
 -- Assumes nothing.
-use Rattle.std.proofs.Common.{◌≡◌, [], ◌++◌, get_or, take, pos, sym, refl, ap, ◌∙◌}
+use Rattle.std.proofs.Common.{[], get_or, take, pos, sym, refl, ap, ◌∙◌}
 use Rattle.money.specs.declared.quantity.Minor.{Minor}
 use Rattle.std.specs.List.{flat_map}
 use Rattle.std.proofs.Output.{has_written_append, has_written_of_eq}
