@@ -1,7 +1,7 @@
 -- Few records cannot bring a cell to its limits. Assumes nothing.
 use Rattle.std.proofs.Common.{◌≡◌, ℕ, ◌+◌, ◌*◌, ◌≤◌, min, true, List, [], ◌∷◌, length, pos, neg_ℤ, nat_abs, Ok, sym, refl, ap, ◌∙◌, ⊎_elim, arith}
 use borrow.Author.Differences.{ints, true_is_le}
-use Rattle.std.specs.List.{AllByRecursion as All}
+use Rattle.std.specs.List.{AllByRecursion}
 use Rattle.std.proofs.lemmas.List.{length-take}
 use Rattle.std.proofs.lemmas.Bool.{cond-true, cond-false, and_from, lt-ltb, cases_Bool, le-ltb}
 use Rattle.std.proofs.lemmas.Bool.Decides.{nat_tests}
@@ -76,7 +76,7 @@ near_fits m b l h near few =
     (sym (true_is_le (m.floor a k) (m.cell a k) (omega (arith, ints))))
     (sym (true_is_le (m.cell a k) (m.ceiling a k) (omega (arith, ints))))
 
-near_stops : (m : Meaning) (b n : ℕ) (ls : List Leg) → All InRange ls → Near m b → b + length ls * most_amount ≤ most_held → stops m n ls ≡ Ok tt
+near_stops : (m : Meaning) (b n : ℕ) (ls : List Leg) → AllByRecursion InRange ls → Near m b → b + length ls * most_amount ≤ most_held → stops m n ls ≡ Ok tt
 unfolding stops
 near_stops m b n [] h near few = refl
 near_stops m b n (l ∷ ls) h near few =
@@ -85,7 +85,7 @@ near_stops m b n (l ∷ ls) h near few =
     ∙ near_stops (entered m (l ∷ [])) (b + most_amount) (n + 1) ls h.1 one (omega arith)
 
 -- while all the records together cannot reach a limit, the room alone decides
-pub room_decides : (rs ls : List Leg) (n : ℕ) → All InRange ls → (n + length ls) * most_amount ≤ most_held → length ls ≤ (journal_over rs n).room → verdict (journal_over rs n) ls ≡ Ok tt
+pub room_decides : (rs ls : List Leg) (n : ℕ) → AllByRecursion InRange ls → (n + length ls) * most_amount ≤ most_held → length ls ≤ (journal_over rs n).room → verdict (journal_over rs n) ls ≡ Ok tt
 unfolding verdict
 room_decides rs ls n h few room =
     cond-false _ _ _ (le-ltb _ _ room)

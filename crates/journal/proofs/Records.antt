@@ -1,7 +1,7 @@
 -- What the records of a journal add up to, and what writing legs changes. Assumes nothing.
 use Rattle.std.proofs.Common.{◌≡◌, ℕ, ◌+◌, ◌-◌, ◌<◌, ◌≤◌, min, true, false, List, [], ◌∷◌, ◌++◌, length, get_or, take, drop, pos, ◌+ℤ◌, sym, refl, ap, ◌∙◌, ⊎_elim, append_assoc, add-zero, arith}
 use borrow.Author.Differences.{ints}
-use Rattle.std.specs.List.{AllByRecursion as All}
+use Rattle.std.specs.List.{AllByRecursion}
 use Rattle.std.proofs.lemmas.List.{at_drop_more, at_drop_all, take_all, append-nil, length-take, length-append, length-drop, take-append-le, take-append-drop}
 use Rattle.std.proofs.lemmas.Bool.{cond-true, cond-false, and_from, and_cases, le-leb, ltb-false, cases_Bool, cases_lt}
 use Rattle.ledger.specs.declared.leg.Leg.{Leg}
@@ -34,7 +34,7 @@ pub leg-recorded : (l : Leg) (a k : ℕ) → in_range l ≡ true → in_record l
 unfolding in_record
 leg-recorded l a k t = cond-true _ _ _ t
 
-pub legs_recorded : (ls : List Leg) (a k : ℕ) → All InRange ls → recorded ls a k ≡ rise ls a k
+pub legs_recorded : (ls : List Leg) (a k : ℕ) → AllByRecursion InRange ls → recorded ls a k ≡ rise ls a k
 unfolding recorded rise
 legs_recorded [] a k h = refl
 legs_recorded (l ∷ ls) a k h = λ i. leg-recorded l a k (range_in l h.0) i +ℤ legs_recorded ls a k h.1 i
@@ -63,7 +63,7 @@ leg_outside l a k h o =
     by_equal l.account a (λ e. in_cell_here l a k e ∙ in_column_off l k (omega (arith, h.column))) (λ e. in_cell_off l a k e))
     (and_cases _ _ o)
 
-legs_outside : (ls : List Leg) (a k : ℕ) → All InRange ls → listed a k ≡ false → rise ls a k ≡ pos 0
+legs_outside : (ls : List Leg) (a k : ℕ) → AllByRecursion InRange ls → listed a k ≡ false → rise ls a k ≡ pos 0
 unfolding rise
 legs_outside [] a k h o = refl
 legs_outside (l ∷ ls) a k h o =
@@ -72,7 +72,7 @@ legs_outside (l ∷ ls) a k h o =
     omega (arith, ints)
 
 -- the cells once legs are written behind the records
-cells_after_lem : (rs ls : List Leg) (a k : ℕ) → All InRange ls → where_listed (recorded (rs ++ ls)) a k ≡ where_listed (recorded rs) a k +ℤ rise ls a k
+cells_after_lem : (rs ls : List Leg) (a k : ℕ) → AllByRecursion InRange ls → where_listed (recorded (rs ++ ls)) a k ≡ where_listed (recorded rs) a k +ℤ rise ls a k
 cells_after_lem rs ls a k h =
     ⊎_elim
     (λ t.
@@ -124,7 +124,7 @@ taken-written rs (l ∷ ls) n room =
 length-written : (rs ls : List Leg) (n : ℕ) → length ls ≤ min (length rs) most_records - n → length (written rs n ls) ≡ length rs
 length-written rs ls n room = simp (length-append, length-take, length-drop) (omega arith)
 
-pub entered-written : (rs ls : List Leg) (n : ℕ) → All InRange ls → length ls ≤ min (length rs) most_records - n → journal_over (written rs n ls) (n + length ls) ≡ entered (journal_over rs n) ls
+pub entered-written : (rs ls : List Leg) (n : ℕ) → AllByRecursion InRange ls → length ls ≤ min (length rs) most_records - n → journal_over (written rs n ls) (n + length ls) ≡ entered (journal_over rs n) ls
 unfolding entered
 entered-written rs ls n h room =
     same_meaning (journal_over (written rs n ls) (n + length ls)) (entered (journal_over rs n) ls)

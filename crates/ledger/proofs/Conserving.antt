@@ -1,7 +1,7 @@
 -- What taking an entry keeps. Assumes nothing.
 use Rattle.std.proofs.Common.{◌≡◌, ℕ, ◌+◌, ◌<◌, true, List, [], ◌∷◌, pos, ◌+ℤ◌, Ok, Err, Result, sym, refl, ◌∙◌, subst, arith}
 use borrow.Author.Differences.{ints}
-use Rattle.std.specs.List.{AllByRecursion as All}
+use Rattle.std.specs.List.{AllByRecursion}
 use Rattle.std.proofs.ByRecursion.{All-weaker}
 use Rattle.register.specs.declared.fault.LedgerFault.{LedgerFault}
 use Rattle.register.specs.Register.{ledger_answer}
@@ -36,14 +36,14 @@ keeps m n (l ∷ ls) e a k h =
     subst (λ w. inside w a k (w.cell a k) ≡ true) (entered-append m (l ∷ []) ls) (keeps (entered m (l ∷ [])) (n + 1) ls p.1 a k on)
 
 -- so once all legs are entered, the cell of each is within its limits
-all_fit : (m : Meaning) (n : ℕ) (ls : List Leg) → stops m n ls ≡ Ok tt → All (λ l. fits (entered m ls) l ≡ true) ls
+all_fit : (m : Meaning) (n : ℕ) (ls : List Leg) → stops m n ls ≡ Ok tt → AllByRecursion (λ l. fits (entered m ls) l ≡ true) ls
 unfolding stops
 all_fit m n [] e = tt
 all_fit m n (l ∷ ls) e =
     let p = cond-taken _ _ _ e in
     let same = entered-append m (l ∷ []) ls in (
       subst (λ w. fits w l ≡ true) same (keeps (entered m (l ∷ [])) (n + 1) ls p.1 l.account l.column p.0),
-      subst (λ w. All (λ x. fits w x ≡ true) ls) same (all_fit (entered m (l ∷ [])) (n + 1) ls p.1),
+      subst (λ w. AllByRecursion (λ x. fits w x ≡ true) ls) same (all_fit (entered m (l ∷ [])) (n + 1) ls p.1),
     )
 
 -- legs that balance leave each column's sum over the accounts as it was
@@ -51,7 +51,7 @@ same_sum : (m : Meaning) (ls : List Leg) → EntryLegs ls → (k : ℕ) → sum_
 unfolding entered
 same_sum m ls h k =
     let add : sum_to accounts (λ a. m.cell a k +ℤ rise ls a k) ≡ sum_to accounts (λ a. m.cell a k) +ℤ sum_to accounts (λ a. rise ls a k) = sum_add accounts (λ a. m.cell a k) (λ a. rise ls a k) in
-    let all : All (λ l. l.account < accounts) ls = All-weaker InRange (λ l. l.account < accounts) (λ l r. omega (arith, r.account)) ls h.each in
+    let all : AllByRecursion (λ l. l.account < accounts) ls = All-weaker InRange (λ l. l.account < accounts) (λ l r. omega (arith, r.account)) ls h.each in
     let sum : sum_to accounts (λ a. rise ls a k) ≡ column_sum ls k = rise-sum accounts ls k all in
     let none : column_sum ls k ≡ pos 0 = h.balanced k in
     omega (arith, ints)

@@ -1,6 +1,6 @@
 -- The test whether legs make an entry says yes exactly if they do. Assumes nothing.
 use Rattle.std.proofs.Common.{◌≡◌, ℕ, ◌+◌, ◌<◌, ◌≤◌, true, ◌&&◌, ◌≢◌, List, [], ◌∷◌, length, get_or, drop, ℤ, pos, negsuc, Decides, refl, ap, subst, arith}
-use Rattle.std.specs.List.{AllByRecursion as All}
+use Rattle.std.specs.List.{AllByRecursion}
 use Rattle.std.proofs.lemmas.List.{at_drop_more, at_drop_all}
 use Rattle.std.proofs.lemmas.Bool.{and_parts, and_from, leb-true, le-leb, eqb-true}
 use Rattle.ledger.specs.declared.leg.Leg.{Leg}
@@ -39,12 +39,12 @@ in_range_lem l e =
 range_in : (l : Leg) → InRange l → in_range l ≡ true
 range_in l h = and_from _ _ (le-leb _ _ h.account) (and_from _ _ (le-leb _ _ h.column) (le-leb _ _ h.amount))
 
-all_in_range_lem : (ls : List Leg) → all_in_range ls ≡ true → All InRange ls
+all_in_range_lem : (ls : List Leg) → all_in_range ls ≡ true → AllByRecursion InRange ls
 unfolding all_in_range
 all_in_range_lem [] e = tt
 all_in_range_lem (l ∷ ls) e = let p = and_parts _ _ e in (in_range_lem l p.0, all_in_range_lem ls p.1)
 
-range-all_in : (ls : List Leg) → All InRange ls → all_in_range ls ≡ true
+range-all_in : (ls : List Leg) → AllByRecursion InRange ls → all_in_range ls ≡ true
 unfolding all_in_range
 range-all_in [] h = refl
 range-all_in (l ∷ ls) h = and_from _ _ (range_in l h.0) (range-all_in ls h.1)
@@ -57,7 +57,7 @@ zero_is : (z : ℤ) → z ≡ pos 0 → is_zero z ≡ true
 zero_is z e = ap is_zero e
 
 -- column k has a leg, and then it was added up, or it has none, and then it is zero
-zero_at : (ls qs : List Leg) (k : ℕ) → zero_at_each ls qs ≡ true → (All (λ l. l.column ≢ k) qs → column_sum ls k ≡ pos 0) → column_sum ls k ≡ pos 0
+zero_at : (ls qs : List Leg) (k : ℕ) → zero_at_each ls qs ≡ true → (AllByRecursion (λ l. l.column ≢ k) qs → column_sum ls k ≡ pos 0) → column_sum ls k ≡ pos 0
 unfolding zero_at_each
 zero_at ls [] k e f = f tt
 zero_at ls (q ∷ qs) k e f =

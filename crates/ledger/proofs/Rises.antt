@@ -1,7 +1,7 @@
 -- What legs add to cells and columns, and sums over accounts. Assumes nothing.
 use Rattle.std.proofs.Common.{◌≡◌, ℕ, zero, suc, ◌+◌, ◌<◌, ◌≤◌, ◌≢◌, List, [], ◌∷◌, ◌++◌, length, get_or, drop, ℤ, pos, ◌+ℤ◌, refl, ◌∙◌, ⊎_elim, arith}
 use borrow.Author.Differences.{ints}
-use Rattle.std.specs.List.{AllByRecursion as All}
+use Rattle.std.specs.List.{AllByRecursion}
 use Rattle.std.proofs.lemmas.List.{at_drop_more, at_drop_all}
 use Rattle.std.proofs.lemmas.Bool.{cases_eq, eq-eqb, ne_eqb}
 use Rattle.ledger.specs.declared.leg.Leg.{Leg}
@@ -72,7 +72,7 @@ unfolding column_sum
 column_left_all ls i k h = at_drop_all (λ xs. column_sum xs k) ls i h
 
 -- no leg in column k
-pub column_off : (ls : List Leg) (k : ℕ) → All (λ l. l.column ≢ k) ls → column_sum ls k ≡ pos 0
+pub column_off : (ls : List Leg) (k : ℕ) → AllByRecursion (λ l. l.column ≢ k) ls → column_sum ls k ≡ pos 0
 unfolding column_sum
 column_off [] k h = refl
 column_off (l ∷ ls) k h =
@@ -114,7 +114,7 @@ leg-sum (suc n) l k h =
     omega (arith, ints))
 
 -- over all accounts, what legs add to a column's cells is their sum in the column
-pub rise-sum : (n : ℕ) (ls : List Leg) (k : ℕ) → All (λ l. l.account < n) ls → sum_to n (λ a. rise ls a k) ≡ column_sum ls k
+pub rise-sum : (n : ℕ) (ls : List Leg) (k : ℕ) → AllByRecursion (λ l. l.account < n) ls → sum_to n (λ a. rise ls a k) ≡ column_sum ls k
 unfolding rise column_sum
 rise-sum n [] k h = sum_zero n
 rise-sum n (l ∷ ls) k h =

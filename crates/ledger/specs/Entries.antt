@@ -1,6 +1,6 @@
 -- Which lists of legs make an entry. Assumes nothing.
 use Rattle.std.specs.Prelude.{◌≡◌, ℕ, ◌≤◌, Bool, true, false, ◌&&◌, List, [], ◌∷◌, length, ℤ, pos, negsuc, ◌==◌, nat_le, unsigned_abs}
-use Rattle.std.specs.List.{AllByRecursion as All}
+use Rattle.std.specs.List.{AllByRecursion}
 use Rattle.money.specs.Conversions.{most_amount}
 use Rattle.ledger.specs.declared.leg.Leg.{Leg}
 use Rattle.ledger.specs.Legs.{column_sum}
@@ -25,7 +25,7 @@ pub record InRange (l : Leg) : Type 0 where
 -- The legs make an entry: they are few enough, each is in range, and every column sums to zero.
 pub record EntryLegs (ls : List Leg) : Type 0 where
   pub few : length ls ≤ most_legs
-  pub each : All InRange ls
+  pub each : AllByRecursion InRange ls
   pub balanced : (k : ℕ) → column_sum ls k ≡ pos 0
 
 -- the test whether a leg is in range

@@ -1,6 +1,6 @@
 -- What taking an entry keeps, for every ledger. Assumes nothing.
 use Rattle.std.specs.Prelude.{◌≡◌, ℕ, ◌+◌, true, List, length, ◌+ℤ◌, Result, MatchResult}
-use Rattle.std.specs.List.{AllByRecursion as All}
+use Rattle.std.specs.List.{AllByRecursion}
 use Rattle.register.specs.declared.fault.LedgerFault.{LedgerFault}
 use Rattle.ledger.specs.declared.leg.Leg.{Leg}
 use Rattle.ledger.specs.Legs.{rise, sum_to}
@@ -11,7 +11,7 @@ use Rattle.ledger.specs.Meaning.{Meaning, fits}
 pub record Accepted (m n : Meaning) (ls : List Leg) : Type 0 where
   pub columns : (k : ℕ) → sum_to accounts (λ a. n.cell a k) ≡ sum_to accounts (λ a. m.cell a k)
   pub cells : (a k : ℕ) → n.cell a k ≡ m.cell a k +ℤ rise ls a k
-  pub limits : All (λ l. fits n l ≡ true) ls
+  pub limits : AllByRecursion (λ l. fits n l ≡ true) ls
   pub room : n.room + length ls ≡ m.room
   pub floors : n.floor ≡ m.floor
   pub ceilings : n.ceiling ≡ m.ceiling

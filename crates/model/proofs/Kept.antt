@@ -1,7 +1,7 @@
 -- What each call owes, and what every run keeps by it. Assumes nothing.
 use Rattle.std.proofs.Common.{◌≡◌, ℕ, ◌+◌, ◌*◌, ◌<◌, ◌≤◌, true, List, [], ◌∷◌, length, ℤ, pos, ◌+ℤ◌, ◌-ℤ◌, ◌*ℤ◌, Some, None, Ok, Err, Option, sym, refl, ap, ◌∙◌, subst, arith, length-append}
 use borrow.Author.Differences.{ints}
-use Rattle.std.specs.List.{range_with_len, AllByRecursion as All}
+use Rattle.std.specs.List.{range_with_len, AllByRecursion}
 use Rattle.register.specs.Register.{Refusal}
 use Rattle.money.specs.declared.currency.National.{National}
 use Rattle.money.specs.Table.{rate, parts}
@@ -43,7 +43,7 @@ NationalExact j c r u =
 
 -- what the legs ls of the accepted call c owe
 pub record Balanced (c : Call) (r : Reply c) (ls : List Leg) : Type 0 where
-  pub within : All (λ l. l.account < accounts) ls
+  pub within : AllByRecursion (λ l. l.account < accounts) ls
   pub columns : (k : ℕ) → column_sum ls k ≡ pos 0
   pub euro : (i : National) → EuroExact i c r (rise ls 0 (fraction_number (EuroOf i)))
   pub national : (j : National) → NationalExact j c r (rise ls 0 (fraction_number (NationalOf j)))

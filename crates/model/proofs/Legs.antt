@@ -1,7 +1,7 @@
 -- What pairs of legs, and residues that move from one account to another, add to cells and columns. Assumes nothing.
 use Rattle.std.proofs.Common.{◌≡◌, ℕ, ◌+◌, true, false, cond, eqb, ◌≢◌, List, [], ◌∷◌, ℤ, pos, ◌+ℤ◌, neg_ℤ, sym, refl, ◌∙◌, subst, arith}
 use borrow.Author.Differences.{ints}
-use Rattle.std.specs.List.{AllByRecursion as All}
+use Rattle.std.specs.List.{AllByRecursion}
 use Rattle.std.proofs.ByRecursion.{All-append}
 use Rattle.money.specs.declared.currency.Currency.{Currency}
 use Rattle.money.specs.declared.currency.Currency.TheVariants.{Euro, National as Of}
@@ -44,7 +44,7 @@ rise_beside a b c z ls k n =
     (λ e. subst (λ (x : ℕ). rise (leg a c z ∷ ls) x k ≡ rise ls x k) e (let h : at c z k ≡ pos 0 = at_off c k z n in let r = rise_here a c z ls k in omega (arith, ints)))
     (λ ne. rise_off a b c z ls k ne)
 
-pub rise_elsewhere : (ls : List Leg) (a k : ℕ) → All (λ l. l.account ≢ a) ls → rise ls a k ≡ pos 0
+pub rise_elsewhere : (ls : List Leg) (a k : ℕ) → AllByRecursion (λ l. l.account ≢ a) ls → rise ls a k ≡ pos 0
 unfolding rise
 rise_elsewhere [] a k h = refl
 rise_elsewhere (l ∷ ls) a k h =
@@ -98,7 +98,7 @@ unfolding column_sum
 residue_column p q base Euro z k = refl
 residue_column p q base (Of i) z k = pair_column p q (base + (table i).number) z [] k
 
-residue_all : (P : Leg → Type 0) (p q base : ℕ) (c : Currency) (z : ℤ) → ((k : ℕ) (x : ℤ) → P (leg p k x)) → ((k : ℕ) (x : ℤ) → P (leg q k x)) → All P (residue_legs p q base c z)
+residue_all : (P : Leg → Type 0) (p q base : ℕ) (c : Currency) (z : ℤ) → ((k : ℕ) (x : ℤ) → P (leg p k x)) → ((k : ℕ) (x : ℤ) → P (leg q k x)) → AllByRecursion P (residue_legs p q base c z)
 residue_all P p q base Euro z f g = tt
 residue_all P p q base (Of i) z f g = (f _ _, (g _ _, tt))
 
@@ -123,7 +123,7 @@ origin_column p q w k =
     let b = residue_column p q 22 w.to w.national k in
     omega (arith, ints)
 
-pub origin-all : (P : Leg → Type 0) (p q : ℕ) (w : Origin) → ((k : ℕ) (x : ℤ) → P (leg p k x)) → ((k : ℕ) (x : ℤ) → P (leg q k x)) → All P (origin_legs p q w)
+pub origin-all : (P : Leg → Type 0) (p q : ℕ) (w : Origin) → ((k : ℕ) (x : ℤ) → P (leg p k x)) → ((k : ℕ) (x : ℤ) → P (leg q k x)) → AllByRecursion P (origin_legs p q w)
 origin-all P p q w f g =
     All-append P (residue_legs p q 11 w.from w.euro) (residue_legs p q 22 w.to w.national)
     (residue_all P p q 11 w.from w.euro f g) (residue_all P p q 22 w.to w.national f g)

@@ -1,6 +1,6 @@
 -- What posts owe. Assumes nothing.
 use Rattle.std.proofs.Common.{◌≡◌, ℕ, ◌+◌, ◌<◌, ◌≤◌, Bool, true, false, cond, not, ◌&&◌, leb, ◌≢◌, List, [], ◌∷◌, length, ℤ, pos, negsuc, Some, None, Ok, Option, sym, refl, ap, ◌∙◌, subst, ap₂, arith}
-use Rattle.std.specs.List.{AllByRecursion as All}
+use Rattle.std.specs.List.{AllByRecursion}
 use Rattle.std.proofs.ByRecursion.{All-weaker}
 use Rattle.std.proofs.lemmas.Bool.{not-false, eqb-true}
 use Rattle.money.specs.declared.currency.Currency.{Currency}
@@ -39,7 +39,7 @@ posted_leg_lem place p l e =
       record { account = account_named p.account place a.0 a.1; currency = c.0; column = sym n.number },
     )
 
-posted_legs_lem : (place : ℕ) (ps : List Posting) (ls : List Leg) → posted_legs place ps ≡ Ok ls → (ls ≡ post_legs ps) × All Posted (post_legs ps)
+posted_legs_lem : (place : ℕ) (ps : List Posting) (ls : List Leg) → posted_legs place ps ≡ Ok ls → (ls ≡ post_legs ps) × AllByRecursion Posted (post_legs ps)
 posted_legs_lem place [] ls e = (sym (ok_same [] ls e), tt)
 posted_legs_lem place (p ∷ ps) ls e =
     let a = and_then_lem (posted_leg place p) _ ls e in
@@ -50,15 +50,15 @@ posted_legs_lem place (p ∷ ps) ls e =
 
 -- ---- every currency sums to zero, and so does every column
 
-none_first : (p : Currency → Bool) (cs : List Currency) → first_that p cs ≡ None → All (λ c. p c ≡ false) cs
+none_first : (p : Currency → Bool) (cs : List Currency) → first_that p cs ≡ None → AllByRecursion (λ c. p c ≡ false) cs
 none_first p [] e = tt
 none_first p (c ∷ cs) e =
-    (elim (p c) as (λ b. p c ≡ b → cond b (Some c) (first_that p cs) ≡ None → (p c ≡ false) × All (λ c. p c ≡ false) cs) [
+    (elim (p c) as (λ b. p c ≡ b → cond b (Some c) (first_that p cs) ≡ None → (p c ≡ false) × AllByRecursion (λ c. p c ≡ false) cs) [
       | true ↦ λ q f. let z : ◌≡◌ {A = ℕ} 0 1 = cc in absurd (omega arith)
       | false ↦ λ q f. (q, none_first p cs f)
     ]) refl e
 
-each_currency : (P : Currency → Type 0) → All P currencies → (c : Currency) → P c
+each_currency : (P : Currency → Type 0) → AllByRecursion P currencies → (c : Currency) → P c
 each_currency P x Euro = x.0
 each_currency P x (Of Bef) = x.1.0
 each_currency P x (Of Dem) = x.1.1.0
@@ -86,7 +86,7 @@ currency_sum ls x e c =
     is_zero_lem (column_sum ls (number_of c)) (not-false _ (each_currency (λ c. not (is_zero (column_sum ls (number_of c))) ≡ false) all c))
 
 -- a column in which a leg stands is a currency's, and any other is empty
-column_sum_lem : (ls qs : List Leg) (k : ℕ) → ((c : Currency) → column_sum ls (number_of c) ≡ pos 0) → All Posted qs → (All (λ l. l.column ≢ k) qs → column_sum ls k ≡ pos 0) → column_sum ls k ≡ pos 0
+column_sum_lem : (ls qs : List Leg) (k : ℕ) → ((c : Currency) → column_sum ls (number_of c) ≡ pos 0) → AllByRecursion Posted qs → (AllByRecursion (λ l. l.column ≢ k) qs → column_sum ls k ≡ pos 0) → column_sum ls k ≡ pos 0
 column_sum_lem ls [] k z h f = f tt
 column_sum_lem ls (q ∷ qs) k z h f =
     by_equal q.column k
@@ -95,7 +95,7 @@ column_sum_lem ls (q ∷ qs) k z h f =
 
 -- ---- the post
 
-post_balanced : (ps : List Posting) → All Posted (post_legs ps) → ((k : ℕ) → column_sum (post_legs ps) k ≡ pos 0) → Balanced (post ps) tt (post_legs ps)
+post_balanced : (ps : List Posting) → AllByRecursion Posted (post_legs ps) → ((k : ℕ) → column_sum (post_legs ps) k ≡ pos 0) → Balanced (post ps) tt (post_legs ps)
 post_balanced ps h z =
     let past : (k : ℕ) → rise (post_legs ps) 0 k ≡ pos 0 = λ k. rise_elsewhere (post_legs ps) 0 k (All-weaker Posted (λ l. l.account ≢ 0) (λ l p. let lo : 2 ≤ l.account = p.account.low in omega arith) (post_legs ps) h) in
     record {
@@ -105,7 +105,7 @@ post_balanced ps h z =
       national = λ j. nothing_national _ _ (past _);
     }
 
-post_sound : (o s : State) (h : List Event) (ps : List Posting) → All Posted (post_legs ps) → ((k : ℕ) → column_sum (post_legs ps) k ≡ pos 0)
+post_sound : (o s : State) (h : List Event) (ps : List Posting) → AllByRecursion Posted (post_legs ps) → ((k : ℕ) → column_sum (post_legs ps) k ≡ pos 0)
     → Sound o s h (post ps) (record { answer = tt; legs = Some (post_legs ps); change = unchanged })
 unfolding status origin
 post_sound o s h ps p z = record {
@@ -128,5 +128,5 @@ post_accepted o s h ps v e =
     let p = posted_legs_lem 1 ps c.0 c.1 in
     let z : (k : ℕ) → column_sum (post_legs ps) k ≡ pos 0 =
     subst (λ (ls : List Leg). (k : ℕ) → column_sum ls k ≡ pos 0) p.0
-    (λ k. column_sum_lem c.0 (post_legs ps) k (currency_sum c.0 d.0 d.1) p.1 (λ g. column_off c.0 k (subst (All (λ l. l.column ≢ k)) (sym p.0) g))) in
+    (λ k. column_sum_lem c.0 (post_legs ps) k (currency_sum c.0 d.0 d.1) p.1 (λ g. column_off c.0 k (subst (AllByRecursion (λ l. l.column ≢ k)) (sym p.0) g))) in
     subst (Sound o s h (post ps)) (ap (λ (ls : List Leg). record { answer = tt; legs = Some ls; change = unchanged }) (sym p.0) ∙ ok_same _ v d.2) (post_sound o s h ps p.1 z)

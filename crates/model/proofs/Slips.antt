@@ -1,6 +1,6 @@
 -- Numbers, carries and what follows a carry, by what each call says of a number. Assumes nothing.
 use Rattle.std.proofs.Common.{◌≡◌, ℕ, zero, suc, ◌+◌, cond, eqb, ◌≢◌, List, [], ◌∷◌, ◌++◌, length, Ok, Err, sym, refl, ap, ◌∙◌, ap₂, append-nil, arith, length-append}
-use Rattle.std.specs.List.{range_with_len, AllByRecursion as All}
+use Rattle.std.specs.List.{range_with_len, AllByRecursion}
 use Rattle.std.proofs.lemmas.Bool.{eq-eqb, ne_eqb}
 use Rattle.ledger.proofs.Rises.{by_equal}
 use Rattle.model.specs.declared.record.Standing.{Standing}
@@ -105,7 +105,7 @@ leaves_alone (retakes k) t n a x e = other_than k n a (held Out) t e (λ q. carr
 leaves_alone (carries k b) t n a x e = other_than k n a (carried b) t e (λ q. carried≢held a x.0 (q ∙ x.1))
 
 pub after_carry : (later earlier : List Event) (mark n a : ℕ) → EachAccepted AllowedThen (later ++ (event (carry mark n a) (Ok tt) ∷ earlier))
-    → (status (later ++ (event (carry mark n a) (Ok tt) ∷ earlier)) n ≡ carried a) × All (Unconcerned n) later
+    → (status (later ++ (event (carry mark n a) (Ok tt) ∷ earlier)) n ≡ carried a) × AllByRecursion (Unconcerned n) later
 unfolding status
 after_carry [] earlier mark n a x = (cond_same n n (carried a) (status earlier n) refl, tt)
 after_carry (event c (Ok r) ∷ later) earlier mark n a x =

@@ -1,7 +1,7 @@
 -- What splits owe. Assumes nothing.
 use Rattle.std.proofs.Common.{◌≡◌, ℕ, suc, ◌<◌, ◌≤◌, true, false, cond, eqb, ◌≢◌, List, [], ◌∷◌, map, length, ℤ, pos, ◌+ℤ◌, neg_ℤ, nat_abs, Ok, Err, fold, sym, refl, ap, ◌∙◌, subst, ap₂, arith}
 use borrow.Author.Differences.{ints}
-use Rattle.std.specs.List.{AllByRecursion as All}
+use Rattle.std.specs.List.{AllByRecursion}
 use Rattle.std.proofs.ByRecursion.{All-weaker}
 use Rattle.money.specs.declared.currency.Currency.{Currency}
 use Rattle.money.specs.declared.quantity.Minor.{Minor}
@@ -38,7 +38,7 @@ is_checked amount shares m n x e =
       | Err f ↦ λ q. absurd (let y = rw q at e in let z : ◌≡◌ {A = ℕ} 0 1 = cc y in omega arith)
     ]) refl
 
-all_named : (shares : List Share) → ((i : ℕ) → i < length shares → named (share_at shares i).account ≡ true) → All (λ s. Named s.account) shares
+all_named : (shares : List Share) → ((i : ℕ) → i < length shares → named (share_at shares i).account ≡ true) → AllByRecursion (λ s. Named s.account) shares
 all_named [] f = tt
 all_named (s ∷ shares) f = (is_named s.account (f 0 (omega arith)), all_named shares (λ i l. f (suc i) (omega arith)))
 
@@ -73,7 +73,7 @@ shares_column c (s ∷ shares) (b ∷ given) k e =
     let w : at c (b.0 +ℤ int_sum (map (λ m. m.0) given)) k ≡ at c (fold ◌+ℤ◌ (pos 0 +ℤ b.0) (map (λ m. m.0) given)) k = ap (λ (z : ℤ). at c z k) g in
     omega (arith, ints)
 
-shares_all : (P : ℕ → Type 0) (c : ℕ) (shares : List Share) (given : List Minor) → All (λ s. P s.account) shares → All (λ l. P l.account) (share_legs c shares given)
+shares_all : (P : ℕ → Type 0) (c : ℕ) (shares : List Share) (given : List Minor) → AllByRecursion (λ s. P s.account) shares → AllByRecursion (λ l. P l.account) (share_legs c shares given)
 shares_all P c [] given h = tt
 shares_all P c (s ∷ shares) [] h = tt
 shares_all P c (s ∷ shares) (b ∷ given) h = (h.0, shares_all P c shares given h.1)
@@ -91,14 +91,14 @@ split_column d shares given k e w =
     let o : in_column (leg d.account d.currency (neg_ℤ d.amount.0)) k ≡ neg_ℤ (at d.currency d.amount.0 k) = in_column_lem d.account d.currency (neg_ℤ d.amount.0) k ∙ at_opposite d.currency k d.amount.0 in
     omega (arith, ints)
 
-split_past : (d : Division) (shares : List Share) (given : List Minor) (p k : ℕ) → p < 2 → Named d.account → All (λ s. Named s.account) shares → rise (legs_for d shares given) p k ≡ pos 0
+split_past : (d : Division) (shares : List Share) (given : List Minor) (p k : ℕ) → p < 2 → Named d.account → AllByRecursion (λ s. Named s.account) shares → rise (legs_for d shares given) p k ≡ pos 0
 split_past d shares given p k h n all =
     let lo : 2 ≤ d.account = n.low in
     rise_elsewhere (legs_for d shares given) p k
     ((omega arith), shares_all (λ a. a ≢ p) d.currency shares given (All-weaker (λ s. Named s.account) (λ s. s.account ≢ p) (λ s m. let l : 2 ≤ s.account = m.low in omega arith) shares all))
 
 split_sound : (o s : State) (h : List Event) (tie : Tie) (law : Lawful tie) (d : Division) (shares : List Share) (m n : ℕ) (c : Currency)
-    → Named d.account → number_of c ≡ d.currency → All (λ s. Named s.account) shares
+    → Named d.account → number_of c ≡ d.currency → AllByRecursion (λ s. Named s.account) shares
     → Fair tie d.amount.0 shares (portions tie (nat_abs d.amount.0) shares) (fractions tie (nat_abs d.amount.0) shares)
     → Sound o s h (split tie law d shares m n) (splits tie d c shares)
 unfolding status origin

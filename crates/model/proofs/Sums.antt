@@ -1,7 +1,7 @@
 -- Sums over numbers and accounts. Assumes nothing.
 use Rattle.std.proofs.Common.{◌≡◌, ℕ, zero, suc, ◌+◌, ◌*◌, ◌<◌, ◌≢◌, List, ℤ, pos, ◌+ℤ◌, ◌-ℤ◌, ◌*ℤ◌, sym, refl, ap, arith}
 use borrow.Author.Differences.{ints, sum_is_lem}
-use Rattle.std.specs.List.{AllByRecursion as All}
+use Rattle.std.specs.List.{AllByRecursion}
 use Rattle.ledger.specs.declared.leg.Leg.{Leg}
 use Rattle.ledger.specs.Legs.{column_sum, rise, sum_to}
 use Rattle.ledger.specs.Limits.{accounts}
@@ -62,7 +62,7 @@ sum_change (suc g) n f f' h d =
     omega (arith, ints))
 
 -- cells that have risen by legs that balance: the column's sum over all accounts stands
-pub total_stands : (f f' : ℕ → ℤ) (ls : List Leg) (k : ℕ) → ((a : ℕ) → f' a ≡ f a +ℤ rise ls a k) → All (λ l. l.account < accounts) ls → column_sum ls k ≡ pos 0
+pub total_stands : (f f' : ℕ → ℤ) (ls : List Leg) (k : ℕ) → ((a : ℕ) → f' a ≡ f a +ℤ rise ls a k) → AllByRecursion (λ l. l.account < accounts) ls → column_sum ls k ≡ pos 0
     → sum_to accounts f' ≡ sum_to accounts f
 total_stands f f' ls k e h z =
     let t : sum_to accounts (λ a. rise ls a k) ≡ column_sum ls k = rise-sum accounts ls k h in
@@ -71,7 +71,7 @@ total_stands f f' ls k e h z =
     omega (arith, ints)
 
 -- and the sum over the others rises by what account 0 loses
-pub others_rise : (f f' : ℕ → ℤ) (ls : List Leg) (k : ℕ) → ((a : ℕ) → f' a ≡ f a +ℤ rise ls a k) → All (λ l. l.account < accounts) ls → column_sum ls k ≡ pos 0
+pub others_rise : (f f' : ℕ → ℤ) (ls : List Leg) (k : ℕ) → ((a : ℕ) → f' a ≡ f a +ℤ rise ls a k) → AllByRecursion (λ l. l.account < accounts) ls → column_sum ls k ≡ pos 0
     → sum_to 127 (λ a. f' (a + 1)) ≡ sum_to 127 (λ a. f (a + 1)) -ℤ rise ls 0 k
 others_rise f f' ls k e h z =
     let t : sum_to 128 f' ≡ sum_to 128 f = total_stands f f' ls k e h z in

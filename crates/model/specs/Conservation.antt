@@ -1,6 +1,6 @@
 -- The law over whole runs: no fraction is lost or made. Assumes nothing.
 use Rattle.std.specs.Prelude.{◌≡◌, ℕ, suc, ◌+◌, ◌*◌, ◌<◌, ◌≤◌, true, ◌≢◌, ◌⊎◌, List, [], ◌∷◌, ◌++◌, length, ℤ, pos, negsuc, ◌+ℤ◌, ◌-ℤ◌, ◌*ℤ◌, neg_ℤ, Ok, Err, Result, unsigned_abs}
-use Rattle.std.specs.List.{range_with_len, AllByRecursion as All}
+use Rattle.std.specs.List.{range_with_len, AllByRecursion}
 use Rattle.register.specs.Register.{Refusal}
 use Rattle.money.specs.declared.conversion.Conversion.{Conversion}
 use Rattle.money.specs.declared.currency.National.{National}
@@ -46,7 +46,7 @@ pub record CarriedOnce (h : List Event) : Type 0 where
   -- wherever the history is cut at an accepted carry of n, no accepted call that follows gives, parks, takes up or
   -- carries n
   pub final : (later earlier : List Event) (mark n account : ℕ) → h ≡ later ++ (event (carry mark n account) (Ok tt) ∷ earlier)
-      → All (Unconcerned n) later
+      → AllByRecursion (Unconcerned n) later
 
 -- ---- the docket account
 

@@ -1,6 +1,6 @@
 -- Legs drawn up one after the other are those legs, or void where they make no entry. Assumes nothing.
 use Rattle.std.proofs.Common.{◌≡◌, ℕ, ◌+◌, ◌<◌, ◌≤◌, Bool, true, false, cond, ◌&&◌, ltb, leb, ◌⊎◌, List, [], ◌∷◌, ◌++◌, length, ℤ, nat_abs, Some, None, Option, sym, refl, ap, ◌∙◌, inl, inr, ⊎_elim, arith}
-use Rattle.std.specs.List.{AllByRecursion as All}
+use Rattle.std.specs.List.{AllByRecursion}
 use Rattle.std.proofs.lemmas.List.{append-nil, append_assoc, length-append}
 use Rattle.std.proofs.lemmas.Bool.{cond-true, cond-false, cases_Bool, and_from, and_parts, le-leb, leb-true, lt-ltb, ltb-true}
 use Rattle.money.specs.Conversions.{most_amount}
@@ -30,7 +30,7 @@ range_in : (l : Leg) → InRange l → in_range l ≡ true
 range_in l h = and_from _ _ (le-leb _ _ h.account) (and_from _ _ (le-leb _ _ h.column) (le-leb _ _ h.amount))
 
 -- legs in range, and not too many, are all drawn
-pub all-drawn : (xs ys : List Leg) → length xs + length ys ≤ most_legs → All InRange ys → with_legs (Some xs) ys ≡ Some (xs ++ ys)
+pub all-drawn : (xs ys : List Leg) → length xs + length ys ≤ most_legs → AllByRecursion InRange ys → with_legs (Some xs) ys ≡ Some (xs ++ ys)
 unfolding with_leg
 all-drawn xs [] h a = ap Some (sym (append-nil xs))
 all-drawn xs (y ∷ ys) h a =

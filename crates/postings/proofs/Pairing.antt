@@ -1,6 +1,6 @@
 -- Legs that come in pairs, out of one account and into another. Assumes nothing.
 use Rattle.std.proofs.Common.{◌≡◌, ℕ, zero, suc, ◌≤◌, true, leb, List, [], ◌∷◌, ◌++◌, length, ℤ, pos, negsuc, ◌+ℤ◌, neg_ℤ, nat_abs, refl, arith}
-use Rattle.std.specs.List.{AllByRecursion as All}
+use Rattle.std.specs.List.{AllByRecursion}
 use Rattle.std.proofs.ByRecursion.{All-append}
 use Rattle.std.proofs.lemmas.Int.{ints}
 use Rattle.std.proofs.lemmas.Bool.{and_parts, leb-true}
@@ -25,7 +25,7 @@ named-within account h = leb-true account most_account (and_parts (leb first_nam
 
 -- legs in range that sum to zero in every column
 pub record Paired (ls : List Leg) : Type 0 where
-  pub each : All InRange ls
+  pub each : AllByRecursion InRange ls
   pub balanced : (k : ℕ) → column_sum ls k ≡ pos 0
 
 pub paired_entry : (ls : List Leg) → Paired ls → length ls ≤ most_legs → EntryLegs ls
@@ -66,18 +66,18 @@ abs_neg (negsuc n) = refl
 pub transfer_paired : (p q k : ℕ) (x : ℤ) → p ≤ most_account → q ≤ most_account → k ≤ most_column → nat_abs x ≤ most_amount → Paired (transfer p q k x)
 transfer_paired p q k x hp hq hk hx = two_paired p q k (neg_ℤ x) x hp hq hk (omega (arith, abs_neg x)) hx (omega (arith, ints))
 
-transfers_paired : (p q : ℕ) (zs : List Residue) → p ≤ most_account → q ≤ most_account → All (λ z. nat_abs z.parts.0 ≤ most_amount) zs → Paired (transfers p q zs)
+transfers_paired : (p q : ℕ) (zs : List Residue) → p ≤ most_account → q ≤ most_account → AllByRecursion (λ z. nat_abs z.parts.0 ≤ most_amount) zs → Paired (transfers p q zs)
 transfers_paired p q [] hp hq h = none_paired
 transfers_paired p q (z ∷ zs) hp hq h =
     paired_append (transfer p q (fraction_number z.column) z.parts.0) (transfers p q zs)
     (transfer_paired p q (fraction_number z.column) z.parts.0 hp hq (fraction_bounds z.column).1 h.0)
     (transfers_paired p q zs hp hq h.1)
 
-euro_small : (c : Currency) (z : Parts) → nat_abs z.0 ≤ most_amount → All (λ r. nat_abs r.parts.0 ≤ most_amount) (euro_fraction c z)
+euro_small : (c : Currency) (z : Parts) → nat_abs z.0 ≤ most_amount → AllByRecursion (λ r. nat_abs r.parts.0 ≤ most_amount) (euro_fraction c z)
 euro_small Euro z h = tt
 euro_small (Of i) z h = (h, tt)
 
-national_small : (c : Currency) (z : Parts) → nat_abs z.0 ≤ most_amount → All (λ r. nat_abs r.parts.0 ≤ most_amount) (national_fraction c z)
+national_small : (c : Currency) (z : Parts) → nat_abs z.0 ≤ most_amount → AllByRecursion (λ r. nat_abs r.parts.0 ≤ most_amount) (national_fraction c z)
 national_small Euro z h = tt
 national_small (Of i) z h = (h, tt)
 

@@ -1,6 +1,6 @@
 -- Posts: their legs one after the other, and what an accepted one rests on. Assumes nothing.
 use Rattle.std.proofs.Common.{◌≡◌, ℕ, suc, ◌+◌, ◌<◌, ◌≤◌, Bool, true, false, cond, not, ◌&&◌, leb, ◌≢◌, ◌⊎◌, List, [], ◌∷◌, ◌++◌, length, get_or, drop, ℤ, pos, negsuc, nat_abs, Some, None, Ok, Err, Option, Result, sym, refl, ap, ◌∙◌, subst, ⊎_elim, arith}
-use Rattle.std.specs.List.{AllByRecursion as All}
+use Rattle.std.specs.List.{AllByRecursion}
 use Rattle.std.proofs.ByRecursion.{All-weaker}
 use Rattle.std.proofs.lemmas.List.{drop_more, at_drop_all, append_assoc, append-nil}
 use Rattle.std.proofs.lemmas.Bool.{cond-true, cond-false, ne_eqb, eqb-true, le-leb, leb-true, and_from, and_left, and_right, and_parts, lt-leb, not-false, true≢false}
@@ -149,16 +149,16 @@ posted_leg-range place p l e =
 legs_same : {x y : List Leg} → ◌≡◌ {A = Result (List Leg) Refusal} (Ok x) (Ok y) → x ≡ y
 legs_same h = cc
 
-posted_legs-range : (place : ℕ) (ps : List Posting) (ls : List Leg) → posted_legs place ps ≡ Ok ls → All MoneyLeg ls × (length ls ≡ length ps)
-posted_legs-range place [] ls e = subst (λ xs. All MoneyLeg xs × (length xs ≡ 0)) (legs_same e) (tt, refl)
+posted_legs-range : (place : ℕ) (ps : List Posting) (ls : List Leg) → posted_legs place ps ≡ Ok ls → AllByRecursion MoneyLeg ls × (length ls ≡ length ps)
+posted_legs-range place [] ls e = subst (λ xs. AllByRecursion MoneyLeg xs × (length xs ≡ 0)) (legs_same e) (tt, refl)
 posted_legs-range place (p ∷ ps) ls e =
     let a = then_ok (posted_leg place p) _ ls e in
     let b = then_ok (posted_legs (place + 1) ps) _ ls a.2 in
     let more = posted_legs-range (place + 1) ps b.0 b.1 in
-    subst (λ xs. All MoneyLeg xs × (length xs ≡ suc (length ps))) (legs_same b.2) ((posted_leg-range place p a.0 a.1, more.0), ap suc more.1)
+    subst (λ xs. AllByRecursion MoneyLeg xs × (length xs ≡ suc (length ps))) (legs_same b.2) ((posted_leg-range place p a.0 a.1, more.0), ap suc more.1)
 
 -- no currency is found that does not balance
-none_first : (p : Currency → Bool) (xs : List Currency) → first_that p xs ≡ None → All (λ c. p c ≡ false) xs
+none_first : (p : Currency → Bool) (xs : List Currency) → first_that p xs ≡ None → AllByRecursion (λ c. p c ≡ false) xs
 none_first p [] e = tt
 none_first p (x ∷ xs) e = let h = passed (p x) (first_that p xs) x e in (h.0, none_first p xs h.1)
   where
@@ -166,7 +166,7 @@ none_first p (x ∷ xs) e = let h = passed (p x) (first_that p xs) x e in (h.0, 
     passed true o c q = absurd (let z : ◌≡◌ {A = ℕ} 0 1 = cc in omega arith)
     passed false o c q = (refl, q)
 
-each_currency : (P : Currency → Type 0) → All P currencies → (c : Currency) → P c
+each_currency : (P : Currency → Type 0) → AllByRecursion P currencies → (c : Currency) → P c
 each_currency P h Euro = h.0
 each_currency P h (Of Bef) = h.1.0
 each_currency P h (Of Dem) = h.1.1.0
@@ -188,7 +188,7 @@ money_balanced : (ls : List Leg) → lowest_unbalanced ls ≡ None → (c : Curr
 unfolding lowest_unbalanced
 money_balanced ls e c = zero_is _ (each_currency (λ k. not (is_zero (column_sum ls (number_of k))) ≡ false) (none_first (λ k. not (is_zero (column_sum ls (number_of k)))) currencies e) c)
 
-column_balanced : (ls : List Leg) → All MoneyLeg ls → lowest_unbalanced ls ≡ None → (k : ℕ) → column_sum ls k ≡ pos 0
+column_balanced : (ls : List Leg) → AllByRecursion MoneyLeg ls → lowest_unbalanced ls ≡ None → (k : ℕ) → column_sum ls k ≡ pos 0
 column_balanced ls h e k =
     ⊎_elim
     (λ low. in_money (columns-numbered.every k (omega (arith, low.1))) low.1)

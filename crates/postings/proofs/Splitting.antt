@@ -1,6 +1,6 @@
 -- The legs of a split, one share after the other. Assumes nothing.
 use Rattle.std.proofs.Common.{◌≡◌, ℕ, ◌+◌, ◌<◌, ◌≤◌, true, ◌≢◌, List, [], ◌∷◌, map, length, get_or, drop, ℤ, pos, ◌+ℤ◌, neg_ℤ, nat_abs, Ok, Err, fold, Result, sym, refl, ◌∙◌, subst, arith}
-use Rattle.std.specs.List.{range_with_len, AllByRecursion as All}
+use Rattle.std.specs.List.{range_with_len, AllByRecursion}
 use Rattle.std.proofs.ByRecursion.{All-from_get_or}
 use Rattle.std.proofs.lemmas.List.{drop_more, at_drop_all}
 use Rattle.std.proofs.lemmas.Int.{ints}
@@ -52,8 +52,8 @@ module _ (k : ℕ) (shares : List Share) (given : List Minor) where
 
 -- ---- a split makes an entry
 
-portions-range : (k : ℕ) → k ≤ most_column → (shares : List Share) (given : List Minor) → All (λ s. named s.account ≡ true) shares → All (λ m. nat_abs m.0 ≤ most_amount) given
-    → All InRange (portion_legs k shares given)
+portions-range : (k : ℕ) → k ≤ most_column → (shares : List Share) (given : List Minor) → AllByRecursion (λ s. named s.account ≡ true) shares → AllByRecursion (λ m. nat_abs m.0 ≤ most_amount) given
+    → AllByRecursion InRange (portion_legs k shares given)
 portions-range k h [] given a b = tt
 portions-range k h (s ∷ shares) [] a b = tt
 portions-range k h (s ∷ shares) (m ∷ given) a b = (
@@ -79,7 +79,7 @@ portions-sum k (s ∷ shares) (m ∷ given) before e =
     let group : before +ℤ (in_column (leg s.account k m.0) k +ℤ rest) ≡ (before +ℤ m.0) +ℤ rest = omega (arith, ints) in
     group ∙ portions-sum k shares given (before +ℤ m.0) (omega arith)
 
-portions_off : (k j : ℕ) (shares : List Share) (given : List Minor) → k ≢ j → All (λ l. l.column ≢ j) (portion_legs k shares given)
+portions_off : (k j : ℕ) (shares : List Share) (given : List Minor) → k ≢ j → AllByRecursion (λ l. l.column ≢ j) (portion_legs k shares given)
 portions_off k j [] given d = tt
 portions_off k j (s ∷ shares) [] d = tt
 portions_off k j (s ∷ shares) (m ∷ given) d = (d, portions_off k j shares given d)
@@ -95,7 +95,7 @@ portion-small tie law amount shares h i l =
     omega (arith, ints, sum_more f i, sum_part f (i + 1) n (omega arith))
 
 portions-small : (tie : Tie) → Lawful tie → (amount : ℕ) (shares : List Share) → 0 < all_weights shares → amount ≤ most_amount
-    → All (λ (m : Minor). nat_abs m.0 ≤ most_amount) (portions tie amount shares)
+    → AllByRecursion (λ (m : Minor). nat_abs m.0 ≤ most_amount) (portions tie amount shares)
 portions-small tie law amount shares h most =
     All-from_get_or (λ (m : Minor). nat_abs m.0 ≤ most_amount) (portions tie amount shares) (minors 0) (λ i l.
     let n : i < length shares = subst (λ k. i < k) (length-portions tie amount shares) l in

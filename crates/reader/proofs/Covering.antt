@@ -1,6 +1,6 @@
 -- The words of a line cover it. Assumes nothing.
 use Rattle.std.proofs.Common.{◌≡◌, ℕ, zero, suc, ◌+◌, ◌-◌, ◌<◌, ◌≤◌, true, false, cond, ◌&&◌, eqb, ltb, List, [], ◌∷◌, length, get_or, take, drop, sym, refl, ap, ◌∙◌, ⊎_elim, zero-add, arith}
-use Rattle.std.specs.List.{AllByRecursion as All}
+use Rattle.std.specs.List.{AllByRecursion}
 use Rattle.std.proofs.lemmas.Bool.{eqb-true, eqb-false, cond-true, cond-false, cond_both, le-leb, lt-leb, lt-ltb, le-ltb, and_left, and_right, and_from, cases_lt}
 use Rattle.reader.specs.Bytes.{space}
 use Rattle.reader.specs.Laws.{Stands, Apart, holds, holders, Covers, WordsCover}
@@ -17,12 +17,12 @@ stands_later c b bs w h =
       solid = h.solid;
     }
 
-all_later : (c b : ℕ) (bs : List ℕ) (ws : List Piece) → All (Stands (suc c) bs) ws → All (Stands c (b ∷ bs)) ws
+all_later : (c b : ℕ) (bs : List ℕ) (ws : List Piece) → AllByRecursion (Stands (suc c) bs) ws → AllByRecursion (Stands c (b ∷ bs)) ws
 all_later c b bs [] h = tt
 all_later c b bs (w ∷ ws) h = (stands_later c b bs w h.0, all_later c b bs ws h.1)
 
 -- a word that begins with the first byte
-stands_first : (c b : ℕ) (bs t : List ℕ) → (b ≡ space → ⊥) → All (λ x. x ≡ space → ⊥) t → take (length t) bs ≡ t → Stands c (b ∷ bs) (record { column = c; text = b ∷ t })
+stands_first : (c b : ℕ) (bs t : List ℕ) → (b ≡ space → ⊥) → AllByRecursion (λ x. x ≡ space → ⊥) t → take (length t) bs ≡ t → Stands c (b ∷ bs) (record { column = c; text = b ∷ t })
 stands_first c b bs t ne solid h =
     let z : c - c ≡ 0 = omega arith in
     record {
@@ -33,7 +33,7 @@ stands_first c b bs t ne solid h =
     }
 
 -- a byte before the first column belongs to no word
-none_before : (c k : ℕ) (bs : List ℕ) (ws : List Piece) → k < c → All (Stands c bs) ws → holders k ws ≡ 0
+none_before : (c k : ℕ) (bs : List ℕ) (ws : List Piece) → k < c → AllByRecursion (Stands c bs) ws → holders k ws ≡ 0
 none_before c k bs [] lt h = refl
 none_before c k bs (w ∷ ws) lt h =
     let out : holds k w ≡ false = and_left _ _ (lt-leb w.column k (omega (arith, h.0.later))) in
@@ -63,7 +63,7 @@ module _ (c b : ℕ) (bs : List ℕ) (e : eqb b space ≡ false) where
   ne = eqb-false b space e
 
   -- whichever word begins with the byte: the others are as they were in each later column
-  whole_first : (t : List ℕ) (ws ls : List Piece) → All (Stands (suc c) bs) ls → Covers (suc c) bs ws → ((k : ℕ) → c < k → cond (holds k (record { column = c; text = b ∷ t })) 1 0 + holders k ls ≡ holders k ws) → (i : ℕ) → i < length (b ∷ bs) → holders (c + i) (record { column = c; text = b ∷ t } ∷ ls) ≡ cond (eqb (get_or (b ∷ bs) i 0) space) 0 1
+  whole_first : (t : List ℕ) (ws ls : List Piece) → AllByRecursion (Stands (suc c) bs) ls → Covers (suc c) bs ws → ((k : ℕ) → c < k → cond (holds k (record { column = c; text = b ∷ t })) 1 0 + holders k ls ≡ holders k ws) → (i : ℕ) → i < length (b ∷ bs) → holders (c + i) (record { column = c; text = b ∷ t } ∷ ls) ≡ cond (eqb (get_or (b ∷ bs) i 0) space) 0 1
   whole_first t ws ls parts h same zero lt =
       let z : c + 0 ≡ c = omega arith in
       ap (λ k. holders k (record { column = c; text = b ∷ t } ∷ ls)) z

@@ -1,7 +1,7 @@
 -- A line's words, read by its pattern. Assumes nothing.
 use Rattle.std.proofs.Common.{◌≡◌, ℕ, ◌+◌, ◌-◌, ◌%◌, ◌^◌, ◌<◌, ◌≤◌, cond, eqb, leb, List, [], ◌∷◌, ◌++◌, map, length, get_or, take, drop, set, ℤ, Some, None, Ok, Err, Option, Result, sym, refl, ap, ◌∙◌, subst, append_assoc, append-nil, arith}
 use Rattle.std.proofs.lemmas.List.{length-map, take_rest, take_more_set, nil_from_length, at_drop_more, drop_all, take-map}
-use Rattle.std.specs.List.{AllByRecursion as All}
+use Rattle.std.specs.List.{AllByRecursion}
 use Rattle.std.proofs.ByRecursion.{All-take, All-drop}
 use Rattle.std.proofs.lemmas.Bool.{eq-eqb, ne_eqb, lt-leb, le-leb, cond-false, cond-true}
 use Rattle.reader.specs.declared.word.Word.{Word}
@@ -157,11 +157,11 @@ within_by None None None None h = tt
 kind_within : (bs : List ℕ) → WithinDigits (kind_of bs)
 kind_within bs = within_by (number_in bs) (signed_in bs) (code_in bs) (pair_in bs) (λ n e. (one_spelling.nothing_else bs n e).1)
 
-pieces_within : (ps : List Piece) → All (λ w. WithinDigits w.kind) (map read_piece ps)
+pieces_within : (ps : List Piece) → AllByRecursion (λ w. WithinDigits w.kind) (map read_piece ps)
 pieces_within [] = tt
 pieces_within (p ∷ ps) = (kind_within p.text, pieces_within ps)
 
-all_viewed : (ws : List Word) → All (λ w. WithinDigits w.kind) (map view ws) → Readable ws
+all_viewed : (ws : List Word) → AllByRecursion (λ w. WithinDigits w.kind) (map view ws) → Readable ws
 all_viewed [] h = tt
 all_viewed (w ∷ ws) h = (h.0, all_viewed ws h.1)
 
@@ -169,7 +169,7 @@ pub line_readable : (line : List ℕ) (was words : List Word) (n : ℕ) → leng
 line_readable line was words n room e few w =
     let z : n - 0 ≡ n = omega arith in
     subst (λ k. Readable (take k words)) (sym z)
-    (all_viewed (take n words) (subst (All (λ w. WithinDigits w.kind)) (sym (line_words line was words n e (omega arith) w)) (pieces_within (words_of line))))
+    (all_viewed (take n words) (subst (AllByRecursion (λ w. WithinDigits w.kind)) (sym (line_words line was words n e (omega arith) w)) (pieces_within (words_of line))))
 
 -- the words after the first
 pub rest_readable : (ws : List Word) (k : ℕ) → Readable ws → Readable (take (length ws - k) (drop k ws))

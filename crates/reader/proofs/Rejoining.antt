@@ -1,19 +1,19 @@
 -- The lines of an input, joined again. Assumes nothing.
 use Rattle.std.proofs.Common.{◌≡◌, ℕ, ◌<◌, true, false, cond, eqb, List, [], ◌∷◌, ◌++◌, length, sym, refl, ap, ◌∙◌, arith}
-use Rattle.std.specs.List.{AllByRecursion as All}
+use Rattle.std.specs.List.{AllByRecursion}
 use Rattle.std.proofs.lemmas.Bool.{eqb-true, eqb-false, cond_both}
 use Rattle.reader.specs.Bytes.{newline}
 use Rattle.reader.specs.Laws.{LinesRejoin}
 use Rattle.reader.specs.Lines.{OneLine, onto, lines_of, rejoined, last_newline}
 
-onto_one_line : (b : ℕ) (ls : List (List ℕ)) → (b ≡ newline → ⊥) → All OneLine ls → All OneLine (onto b ls)
+onto_one_line : (b : ℕ) (ls : List (List ℕ)) → (b ≡ newline → ⊥) → AllByRecursion OneLine ls → AllByRecursion OneLine (onto b ls)
 onto_one_line b [] ne h = ((ne, tt), tt)
 onto_one_line b (l ∷ ls) ne h = ((ne, h.0), h.1)
 
-one_line_lem : (bs : List ℕ) → All OneLine (lines_of bs)
+one_line_lem : (bs : List ℕ) → AllByRecursion OneLine (lines_of bs)
 one_line_lem [] = tt
 one_line_lem (b ∷ bs) =
-    cond_both (eqb b newline) ([] ∷ lines_of bs) (onto b (lines_of bs)) (All OneLine)
+    cond_both (eqb b newline) ([] ∷ lines_of bs) (onto b (lines_of bs)) (AllByRecursion OneLine)
     (λ e. (tt, one_line_lem bs))
     (λ e. onto_one_line b (lines_of bs) (eqb-false b newline e) (one_line_lem bs))
 

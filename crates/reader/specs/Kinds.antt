@@ -1,6 +1,6 @@
 -- The kinds of words. Assumes nothing.
 use Rattle.std.specs.Prelude.{ℕ, ◌^◌, ◌<◌, List, [], ◌∷◌, map, ℤ, Some, None, Option}
-use Rattle.std.specs.List.{AllByRecursion as All}
+use Rattle.std.specs.List.{AllByRecursion}
 use Rattle.reader.specs.declared.word.Word.{Word}
 use Rattle.reader.specs.declared.word.Word.TheVariants.{Name, Number, Signed, Code, Pair}
 use Rattle.reader.specs.Limits.{most_digits}
@@ -59,7 +59,7 @@ WithinDigits (pair m n) = Unit {0}
 
 -- words of the program of which no number is longer than a number may be
 abbrev pub Readable : List Word → Type 0
-Readable ws = All (λ w. WithinDigits (view w).kind) ws
+Readable ws = AllByRecursion (λ w. WithinDigits (view w).kind) ws
 
 -- ys with xs written over its front, as much as fits
 abbrev pub over : {X : Type 0} → List X → List X → List X

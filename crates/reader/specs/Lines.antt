@@ -1,6 +1,6 @@
 -- The lines of an input. Assumes nothing.
 use Rattle.std.specs.Prelude.{◌≡◌, ℕ, cond, ◌⊎◌, List, [], ◌∷◌, ◌++◌, ◌==◌, ◌≢◌}
-use Rattle.std.specs.List.{AllByRecursion as All}
+use Rattle.std.specs.List.{AllByRecursion}
 use Rattle.reader.specs.Bytes.{newline}
 
 -- the byte b in front of the first line
@@ -27,7 +27,7 @@ last_newline (b ∷ c ∷ bs) = last_newline (c ∷ bs)
 
 -- no byte of the text is byte 10
 abbrev pub OneLine : List ℕ → Type 0
-OneLine bs = All (λ b. b ≢ newline) bs
+OneLine bs = AllByRecursion (λ b. b ≢ newline) bs
 
 -- A line cut from the front of an input has no byte 10 in it; with the byte 10 that ends it and the rest it is the
 -- input, unless it ends with the input: then it is the input, and no rest is left.

@@ -1,7 +1,7 @@
 -- A leg is added to its own cell and to no other. Assumes nothing.
 use Rattle.std.proofs.Common.{◌≡◌, ℕ, ◌<◌, ◌≤◌, true, false, ltb, ◌≢◌, List, [], ◌∷◌, length, get_or, ℤ, pos, ◌+ℤ◌, sym, refl, ap, ◌∙◌, subst, ⊎_elim, arith}
 use lib.IntN.{+ℤ_idr, +ℤ_assoc}
-use Rattle.std.specs.List.{AllByRecursion as All}
+use Rattle.std.specs.List.{AllByRecursion}
 use Rattle.std.proofs.lemmas.List.{length-set, get_or-set_same, get_or-set_other}
 use Rattle.std.proofs.lemmas.Bool.{cond-true, cond-false, cases_Bool, le-leb, and_parts, and_from, ltb-true, lt-ltb}
 use Rattle.ledger.specs.declared.leg.Leg.{Leg}
@@ -68,7 +68,7 @@ posted-length xs [] = refl
 posted-length xs (l ∷ ls) = posted-length (added xs l) ls ∙ length-set xs (place_of l.account l.column) (get_or xs (place_of l.account l.column) (pos 0) +ℤ l.amount)
 
 -- the legs are added each to its own cell
-pub cell_posted : (xs : List ℤ) (ls : List Leg) → All InRange ls → sheet_cells ≤ length xs → (a k : ℕ) → sheet_cell (posted xs ls) a k ≡ sheet_cell xs a k +ℤ rise ls a k
+pub cell_posted : (xs : List ℤ) (ls : List Leg) → AllByRecursion InRange ls → sheet_cells ≤ length xs → (a k : ℕ) → sheet_cell (posted xs ls) a k ≡ sheet_cell xs a k +ℤ rise ls a k
 cell_posted xs [] r h a k = sym (ap (λ z. sheet_cell xs a k +ℤ z) (rise_none a k) ∙ +ℤ_idr (sheet_cell xs a k))
 cell_posted xs (l ∷ ls) r h a k =
     cell_posted (added xs l) ls r.1 (omega (arith, h, length-set xs (place_of l.account l.column) (get_or xs (place_of l.account l.column) (pos 0) +ℤ l.amount))) a k

@@ -2,7 +2,7 @@
 use Rattle.std.proofs.Common.{◌≡◌, ℕ, ◌+◌, ◌-◌, ◌<◌, ◌≤◌, true, false, cond, leb, List, [], ◌∷◌, length, get_or, take, ℤ, pos, ◌+ℤ◌, neg_ℤ, ◌≤ℤ◌, Ok, sym, refl, ap, ◌∙◌, subst, ⊎_elim, arith}
 use borrow.Author.Differences.{ints}
 use lib.Signed.{le_z}
-use Rattle.std.specs.List.{AllByRecursion as All}
+use Rattle.std.specs.List.{AllByRecursion}
 use Rattle.std.proofs.ByRecursion.{All-get_or, All-take}
 use Rattle.std.proofs.lemmas.List.Sums.{fold_more}
 use Rattle.std.proofs.lemmas.Bool.{cond-true, cond-false, cases_Bool, leb-true, and_parts}
@@ -86,7 +86,7 @@ short_meaning : (xs : List ℤ) (room : ℕ) (ls : List Leg) → long xs ≡ fal
 short_meaning xs room [] f h = ap (sheet_over xs) (omega arith) ∙ sym (entered_none (sheet_over xs room))
 short_meaning xs room (l ∷ ls) f h = absurd (omega (arith, h, cond-false (long xs) room 0 f))
 
-long_meaning : (xs : List ℤ) (room : ℕ) (ls : List Leg) → All InRange ls → long xs ≡ true → sheet_over (posted xs ls) (room - length ls) ≡ entered (sheet_over xs room) ls
+long_meaning : (xs : List ℤ) (room : ℕ) (ls : List Leg) → AllByRecursion InRange ls → long xs ≡ true → sheet_over (posted xs ls) (room - length ls) ≡ entered (sheet_over xs room) ls
 unfolding entered
 long_meaning xs room ls r t =
     let h : sheet_cells ≤ length xs = leb-true sheet_cells (length xs) t in
