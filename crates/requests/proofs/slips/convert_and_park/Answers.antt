@@ -1,5 +1,4 @@
 -- The conversion, then the parking of its slip. Assumes nothing.
-use Rattle.std.proofs.Common.{Ok, ◌∙◌}
 use Rattle.std.proofs.lemmas.Result.{err_from_is_err_and}
 use Rattle.model.specs.Calls.{convert}
 use Rattle.model.proofs.Runs.{conserved_through}
@@ -25,4 +24,4 @@ returns g c =
     let slip = c.in_ok-booked.slip in
     let e = c.in_ok-booked.ensures.step in
     let state = conversion_parked s t c.args.exchange c.in_ok-booked.booked slip.number slip.mark _ u e c.in_ok-booked.ensures.marked c.park.ensures.step in
-    record { value = (λ i. Ok (c.in_ok-booked.booked, c.number-number.ensures i)) ∙ answered s (convert c.args.exchange) _ t e; state = state; law = conserved_through s (conversion_calls s c.args.exchange) u state }
+    record { value = cc (answered s (convert c.args.exchange) _ t e); state = state; law = conserved_through s (conversion_calls s c.args.exchange) u state }
