@@ -29,17 +29,17 @@ module _ (amount : ℕ) (shares : List Share) (w : ℕ) (s : Divisible amount sh
   pub quotients_so_far : (i : ℕ) → i ≤ length shares → sum_below (quotient amount shares) i ≤ amount
   quotients_so_far i h = omega (arith, sum_part (quotient amount shares) i (length shares) h, quotients_within amount shares weighs)
 
-  pub remainder-small : (i : ℕ) → remainder amount shares i < w
-  remainder-small i = omega (arith, remainder_below amount shares weighs i, s.sum)
+  pub remainder_small : (i : ℕ) → remainder amount shares i < w
+  remainder_small i = omega (arith, remainder_below amount shares weighs i, s.sum)
 
-  pub quotient-small : (i : ℕ) → i < length shares → quotient amount shares i ≤ amount
-  quotient-small i h = omega (arith, quotients_so_far (i + 1) (omega arith), sum_more (quotient amount shares) i)
+  pub quotient_small : (i : ℕ) → i < length shares → quotient amount shares i ≤ amount
+  quotient_small i h = omega (arith, quotients_so_far (i + 1) (omega arith), sum_more (quotient amount shares) i)
 
   -- what a share served gets, and one that is not
-  pub portion-served : (tie : Tie) (i : ℕ) → rank tie amount shares i < units_left amount shares
+  pub portion_served : (tie : Tie) (i : ℕ) → rank tie amount shares i < units_left amount shares
       → (portion tie amount shares i ≡ quotient amount shares i + 1) × (fraction tie amount shares i ≡ pos (remainder amount shares i) -ℤ pos w)
   unfolding portion fraction served
-  portion-served tie i h =
+  portion_served tie i h =
       let t = lt-ltb (rank tie amount shares i) (units_left amount shares) h in
       let e = s.sum in
       rw t (refl, ap (λ w. pos (remainder amount shares i) -ℤ pos w) (sym e))

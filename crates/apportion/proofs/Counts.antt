@@ -48,9 +48,9 @@ one_or_none_mono : (a b : Bool) → (a ≡ true → b ≡ true) → one_if a ≤
 one_or_none_mono true b h = subst (λ x. 1 ≤ one_if x) (sym (h refl)) (omega arith)
 one_or_none_mono false b h = omega arith
 
-pub count-all : (n : ℕ) → count (λ _. true) n ≡ n
-count-all zero = refl
-count-all (suc n) = omega (arith, count-all n)
+pub count_all : (n : ℕ) → count (λ _. true) n ≡ n
+count_all zero = refl
+count_all (suc n) = omega (arith, count_all n)
 
 pub count_none : (p : ℕ → Bool) (n : ℕ) → ((k : ℕ) → k < n → p k ≡ false) → count p n ≡ 0
 count_none p zero h = refl
@@ -60,29 +60,29 @@ pub count_mono : (p q : ℕ → Bool) (n : ℕ) → ((k : ℕ) → k < n → p k
 count_mono p q n h = sum_mono (λ k. one_if (p k)) (λ k. one_if (q k)) n (λ k l. one_or_none_mono (p k) (q k) (h k l))
 
 pub count_less : (p q : ℕ → Bool) (n i : ℕ) → i < n → p i ≡ false → q i ≡ true → ((k : ℕ) → k < n → p k ≡ true → q k ≡ true) → count p n < count q n
-count_less p q n i l no-p yes-q h =
-    sum_less (λ k. one_if (p k)) (λ k. one_if (q k)) n i l (omega (arith, ap one_if no-p, ap one_if yes-q)) (λ k l. one_or_none_mono (p k) (q k) (h k l))
+count_less p q n i l no_p yes_q h =
+    sum_less (λ k. one_if (p k)) (λ k. one_if (q k)) n i l (omega (arith, ap one_if no_p, ap one_if yes_q)) (λ k l. one_or_none_mono (p k) (q k) (h k l))
 
 -- a test that only one place can pass is passed at most once
 pub count_once : (p : ℕ → Bool) (n : ℕ) → ((i j : ℕ) → i < n → j < n → p i ≡ true → p j ≡ true → i ≡ j) → count p n ≤ 1
 count_once p zero h = omega arith
 count_once p (suc n) h =
     ⊎_elim
-    (λ yes-n. omega (
+    (λ yes_n. omega (
       arith,
-      ap one_if yes-n,
-      count_none p n (λ k l. ⊎_elim (λ yes-k. absurd (omega (arith, h k n (omega arith) (omega arith) yes-k yes-n))) (λ e. e) (cases_Bool (p k))),
+      ap one_if yes_n,
+      count_none p n (λ k l. ⊎_elim (λ yes_k. absurd (omega (arith, h k n (omega arith) (omega arith) yes_k yes_n))) (λ e. e) (cases_Bool (p k))),
     ))
-    (λ no-n. omega (arith, ap one_if no-n, count_once p n (λ i j k l. h i j (omega arith) (omega arith))))
+    (λ no_n. omega (arith, ap one_if no_n, count_once p n (λ i j k l. h i j (omega arith) (omega arith))))
     (cases_Bool (p n))
 
 -- a test on a number, one higher: it was passed before, or the number is the bound itself
 one_or_none_step : (r k : ℕ) → one_if (ltb r (suc k)) ≡ one_if (ltb r k) + one_if (eqb r k)
 one_or_none_step r k = grind (arith, nat_tests)
 
-pub count-step : (r : ℕ → ℕ) (k n : ℕ) → count (λ i. ltb (r i) (suc k)) n ≡ count (λ i. ltb (r i) k) n + count (λ i. eqb (r i) k) n
-count-step r k zero = refl
-count-step r k (suc n) = omega (arith, count-step r k n, one_or_none_step (r n) k)
+pub count_step : (r : ℕ → ℕ) (k n : ℕ) → count (λ i. ltb (r i) (suc k)) n ≡ count (λ i. ltb (r i) k) n + count (λ i. eqb (r i) k) n
+count_step r k zero = refl
+count_step r k (suc n) = omega (arith, count_step r k n, one_or_none_step (r n) k)
 
 -- Numbers below n, no two of n places with the same: for each k, at most k are below k,
 -- and for each rise of k by d at most d more.
@@ -92,7 +92,7 @@ module _ (r : ℕ → ℕ) (n : ℕ) (apart : (i j : ℕ) → i < n → j < n �
   at_most (suc k) =
       omega (
         arith,
-        count-step r k n,
+        count_step r k n,
         at_most k,
         count_once (λ i. eqb (r i) k) n (λ i j li lj ei ej. apart i j li lj (eqb-true (r i) k ei ∙ sym (eqb-true (r j) k ej))),
       )
@@ -103,7 +103,7 @@ module _ (r : ℕ → ℕ) (n : ℕ) (apart : (i j : ℕ) → i < n → j < n �
       let e : k + suc d ≡ suc (k + d) = omega arith in
       rw e (omega (
         arith,
-        count-step r (k + d) n,
+        count_step r (k + d) n,
         rises k d,
         count_once (λ i. eqb (r i) (k + d)) n (λ i j li lj ei ej. apart i j li lj (eqb-true (r i) (k + d) ei ∙ sym (eqb-true (r j) (k + d) ej))),
       ))
@@ -111,16 +111,16 @@ module _ (r : ℕ → ℕ) (n : ℕ) (apart : (i j : ℕ) → i < n → j < n �
   pub exactly : ((i : ℕ) → i < n → r i < n) → (k : ℕ) → k ≤ n → count (λ i. ltb (r i) k) n ≡ k
   exactly within k le =
       let all : n ≤ count (λ i. ltb (r i) n) n =
-      omega (arith, count-all n, count_mono (λ _. true) (λ i. ltb (r i) n) n (λ i l _. lt-ltb (r i) n (within i l))) in
+      omega (arith, count_all n, count_mono (λ _. true) (λ i. ltb (r i) n) n (λ i l _. lt-ltb (r i) n (within i l))) in
       let e : k + (n - k) ≡ n = omega arith in
       let up : count (λ i. ltb (r i) n) n ≤ count (λ i. ltb (r i) k) n + (n - k) = rw e at (rises k (n - k)) in
       omega (arith, at_most k)
 
 -- In a strict order the rank is below the number of places, and rises along the order.
 module _ (ahead : ℕ → ℕ → Bool) (n : ℕ) (o : Strict ahead n) where
-  pub rank-within : (i : ℕ) → i < n → rank_in ahead n i < n
-  rank-within i l =
-      omega (arith, count-all n, count_less (λ k. ahead k i) (λ _. true) n i l (o.irreflexive i l) refl (λ _ _ _. refl))
+  pub rank_within : (i : ℕ) → i < n → rank_in ahead n i < n
+  rank_within i l =
+      omega (arith, count_all n, count_less (λ k. ahead k i) (λ _. true) n i l (o.irreflexive i l) refl (λ _ _ _. refl))
 
   pub rank_rises : (i j : ℕ) → i < n → j < n → ahead i j ≡ true → rank_in ahead n i < rank_in ahead n j
   rank_rises i j li lj h =
@@ -147,15 +147,15 @@ module _ (ahead : ℕ → ℕ → Bool) (n : ℕ) (o : Strict ahead n) where
       → ((i j : ℕ) → i < n → j < n → p i ≡ true → p j ≡ false → ahead i j ≡ true)
       → ((i j : ℕ) → i < n → j < n → q i ≡ true → q j ≡ false → ahead i j ≡ true)
       → (i : ℕ) → i < n → p i ≡ true → q i ≡ true
-  passed_by_both p q e p-first q-first i l yes-p =
-      ⊎_elim (λ yes-q. yes-q)
-      (λ no-q. absurd (omega (
+  passed_by_both p q e p_first q_first i l yes_p =
+      ⊎_elim (λ yes_q. yes_q)
+      (λ no_q. absurd (omega (
         arith,
-        count_less q p n i l no-q yes-p (λ k lk yes-k. ⊎_elim (λ t. t)
-            (λ no-k. absurd (both_ways (ahead i i) (o.irreflexive i l) (o.transitive i k i l lk l (p-first i k l lk yes-p no-k) (q-first k i lk l yes-k no-q))))
+        count_less q p n i l no_q yes_p (λ k lk yes_k. ⊎_elim (λ t. t)
+            (λ no_k. absurd (both_ways (ahead i i) (o.irreflexive i l) (o.transitive i k i l lk l (p_first i k l lk yes_p no_k) (q_first k i lk l yes_k no_q))))
             (cases_Bool (p k))),
       )))
       (cases_Bool (q i))
 
 pub ranks_fill : RanksFill
-ranks_fill ahead n k o le = exactly (rank_in ahead n) n (rank_apart ahead n o) (rank-within ahead n o) k le
+ranks_fill ahead n k o le = exactly (rank_in ahead n) n (rank_apart ahead n o) (rank_within ahead n o) k le

@@ -15,9 +15,9 @@ use Rattle.apportion.specs.Places.{sum_below, one_if}
 use Rattle.apportion.specs.Splits.{weight_at, all_weights, quotient, remainder, units_left, served, portion, portions, fraction, fractions, fraction_of, over}
 use Rattle.apportion.specs.Ties.{Tie, Lawful}
 use Rattle.apportion.proofs.Counts.{sum_same, sum_add, sum_scale}
-use Rattle.apportion.proofs.Order.{served-left, served_first, even_unserved, comes_before}
+use Rattle.apportion.proofs.Order.{served_left, served_first, even_unserved, comes_before}
 use Rattle.apportion.proofs.Remainders.{exact, left_and_quotients, left_is}
-use Rattle.apportion.proofs.Sums.{int_sum-map, int_sum-listed, int_sum-differences}
+use Rattle.apportion.proofs.Sums.{int_sum-map, int_sum_listed, int_sum_differences}
 
 taken_is : (b : Bool) (w : ℕ) → cond b w 0 ≡ w * one_if b
 taken_is true w = sym (mul-one w)
@@ -36,21 +36,21 @@ module _ (tie : Tie) (amount : ℕ) (shares : List Share) where
   unfolding fractions
   length-fractions = length-map-range_with_len (λ k. fraction_of (fraction tie amount shares k)) 0 (length shares)
 
-  pub portion-listed : (i : ℕ) → i < length shares → units_at (portions tie amount shares) i ≡ pos (portion tie amount shares i)
+  pub portion_listed : (i : ℕ) → i < length shares → units_at (portions tie amount shares) i ≡ pos (portion tie amount shares i)
   unfolding portions
-  portion-listed i l =
+  portion_listed i l =
       ap (λ (m : Minor). m.0) (get_or-map-range_with_len (λ k. minors (portion tie amount shares k)) 0 (length shares) i i (minors 0) l (omega arith))
 
-  fraction-listed : (i : ℕ) → i < length shares → parts_at (fractions tie amount shares) i ≡ fraction tie amount shares i
+  fraction_listed : (i : ℕ) → i < length shares → parts_at (fractions tie amount shares) i ≡ fraction tie amount shares i
   unfolding fractions
-  fraction-listed i l =
+  fraction_listed i l =
       ap (λ (f : Fraction). f.0) (get_or-map-range_with_len (λ k. fraction_of (fraction tie amount shares k)) 0 (length shares) i i (fraction_of (pos 0)) l (omega arith))
 
   -- the shares that get more than their quotient are those served
-  raised-served : (i : ℕ) → i < length shares → raised amount shares (portions tie amount shares) i ≡ served tie amount shares i
+  raised_served : (i : ℕ) → i < length shares → raised amount shares (portions tie amount shares) i ≡ served tie amount shares i
   unfolding portion
-  raised-served i l =
-      ap (λ z. ltb (quotient amount shares i) (nat_abs z)) (portion-listed i l) ∙ more_than (quotient amount shares i) (served tie amount shares i)
+  raised_served i l =
+      ap (λ z. ltb (quotient amount shares i) (nat_abs z)) (portion_listed i l) ∙ more_than (quotient amount shares i) (served tie amount shares i)
 
   fraction_owed : (i : ℕ) → fraction tie amount shares i +ℤ pos (portion tie amount shares i * all_weights shares) ≡ pos (amount * weight_at shares i)
   unfolding fraction portion
@@ -71,18 +71,18 @@ module _ (tie : Tie) (amount : ℕ) (shares : List Share) where
         let n = length shares in
         let s : units_left amount shares + sum_below (quotient amount shares) n ≡ amount = left_and_quotients amount shares h in
         int_sum-map (λ m. m.0) (λ i. minors (portion tie amount shares i)) (range_with_len 0 n)
-        ∙ int_sum-listed (portion tie amount shares) n
-        ∙ ap pos (sum_add (quotient amount shares) (λ k. one_if (served tie amount shares k)) n ∙ omega (arith, served-left tie amount shares law h))
+        ∙ int_sum_listed (portion tie amount shares) n
+        ∙ ap pos (sum_add (quotient amount shares) (λ k. one_if (served tie amount shares k)) n ∙ omega (arith, served_left tie amount shares law h))
 
     down_or_up : (i : ℕ) → i < length shares → DownOrUp amount shares i (units_at (portions tie amount shares) i)
     unfolding portion
     down_or_up i l =
         ⊎_elim
         (λ t. inr (
-          portion-listed i l ∙ ap (λ b. pos (quotient amount shares i + one_if b)) t,
+          portion_listed i l ∙ ap (λ b. pos (quotient amount shares i + one_if b)) t,
           λ z. both_ways (served tie amount shares i) (even_unserved tie amount shares h i z) t,
         ))
-        (λ f. inl (portion-listed i l ∙ ap (λ b. pos (quotient amount shares i + one_if b)) f ∙ ap pos (omega arith)))
+        (λ f. inl (portion_listed i l ∙ ap (λ b. pos (quotient amount shares i + one_if b)) f ∙ ap pos (omega arith)))
         (cases_Bool (served tie amount shares i))
 
     fractions_cancel : int_sum (map (λ (f : Fraction). f.0) (fractions tie amount shares)) ≡ pos 0
@@ -94,10 +94,10 @@ module _ (tie : Tie) (amount : ℕ) (shares : List Share) where
         let e : sum_below g n ≡ sum_below (remainder amount shares) n =
         sum_same g (λ k. W * one_if (served tie amount shares k)) n (λ k _. taken_is (served tie amount shares k) W)
         ∙ sum_scale W (λ k. one_if (served tie amount shares k)) n
-        ∙ ap (λ x. W * x) (served-left tie amount shares law h)
+        ∙ ap (λ x. W * x) (served_left tie amount shares law h)
         ∙ left_is amount shares h in
         int_sum-map (λ f. f.0) (λ i. fraction_of (fraction tie amount shares i)) (range_with_len 0 n)
-        ∙ int_sum-differences (remainder amount shares) g n
+        ∙ int_sum_differences (remainder amount shares) g n
         ∙ omega (arith, ints, e)
 
     pub fair : Fair tie (pos amount) shares (portions tie amount shares) (fractions tie amount shares)
@@ -107,11 +107,11 @@ module _ (tie : Tie) (amount : ℕ) (shares : List Share) where
       whole = whole_given;
       rounded = down_or_up;
       served =
-          sum_same (λ k. one_if (raised amount shares (portions tie amount shares) k)) (λ k. one_if (served tie amount shares k)) (length shares) (λ k l. ap one_if (raised-served k l))
-          ∙ served-left tie amount shares law h;
+          sum_same (λ k. one_if (raised amount shares (portions tie amount shares) k)) (λ k. one_if (served tie amount shares k)) (length shares) (λ k l. ap one_if (raised_served k l))
+          ∙ served_left tie amount shares law h;
       largest = λ i j li lj t f.
-          comes_before tie amount shares i j (served_first tie amount shares law i j li lj (sym (raised-served i li) ∙ t) (sym (raised-served j lj) ∙ f));
-      owes = λ i l. rw (portion-listed i l, fraction-listed i l) (let e = fraction_owed i in omega (arith, ints));
+          comes_before tie amount shares i j (served_first tie amount shares law i j li lj (sym (raised_served i li) ∙ t) (sym (raised_served j lj) ∙ f));
+      owes = λ i l. rw (portion_listed i l, fraction_listed i l) (let e = fraction_owed i in omega (arith, ints));
       cancel = fractions_cancel;
     }
 

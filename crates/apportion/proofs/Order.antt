@@ -51,9 +51,9 @@ module _ (tie : Tie) (amount : ℕ) (shares : List Share) where
       c
 
   -- as many are served as units are left
-  pub served-left : Lawful tie → 0 < all_weights shares → count (served tie amount shares) (length shares) ≡ units_left amount shares
+  pub served_left : Lawful tie → 0 < all_weights shares → count (served tie amount shares) (length shares) ≡ units_left amount shares
   unfolding served rank
-  served-left law h = ranks_fill (before tie amount shares) (length shares) (units_left amount shares) (before_strict law) (left_le_length amount shares h)
+  served_left law h = ranks_fill (before tie amount shares) (length shares) (units_left amount shares) (before_strict law) (left_le_length amount shares h)
 
   -- who is served comes before who is not
   pub served_first : Lawful tie → (i j : ℕ) → i < length shares → j < length shares → served tie amount shares i ≡ true → served tie amount shares j ≡ false → before tie amount shares i j ≡ true

@@ -5,7 +5,7 @@ use Rattle.std.proofs.lemmas.Bool.{cases_Bool, ltb-false}
 use Rattle.apportion.specs.declared.share.Share.{Share}
 use Rattle.apportion.specs.Places.{sum_below, one_if, count}
 use Rattle.apportion.specs.Splits.{weight_at, all_weights, quotient, remainder, units_left}
-use Rattle.apportion.proofs.Counts.{sum_mono, sum_same, sum_add, sum_scale, count_mono, count-all}
+use Rattle.apportion.proofs.Counts.{sum_mono, sum_same, sum_add, sum_scale, count_mono, count_all}
 
 module _ (amount : ℕ) (shares : List Share) where
   -- a share's exact part in parts of 1 ÷ W
@@ -68,4 +68,4 @@ module _ (amount : ℕ) (shares : List Share) where
 
   pub left_le_length : 0 < all_weights shares → units_left amount shares ≤ length shares
   left_le_length h =
-      omega (arith, left_le_uneven h, count-all (length shares), count_mono (λ k. ltb 0 (remainder amount shares k)) (λ _. true) (length shares) (λ _ _ _. refl))
+      omega (arith, left_le_uneven h, count_all (length shares), count_mono (λ k. ltb 0 (remainder amount shares k)) (λ _. true) (length shares) (λ _ _ _. refl))

@@ -69,7 +69,7 @@ module _ (s : State) (tie : Tie) (d : Division) (shares : List Share) (m n : ℕ
   pub splitting_passes : Ok tt ≡ verdict d.amount.0 shares m n → Ok (splits tie d c shares) ≡ splitting s tie d shares m n
   splitting_passes e = ap (λ v. and_then v (λ _. Ok (splits tie d c shares))) e ∙ sym splitting_is
 
-pub entering-splits : (tie : Tie) (d : Division) (c : Currency) (shares : List Share) (ps qs : List Minor) (fs : List Fraction) (e : Entry) → ps ≡ portions tie (nat_abs d.amount.0) shares → qs ≡ ps → fs ≡ fractions tie (nat_abs d.amount.0) shares → legs_of e ≡ entry_legs (split_legs d c shares qs) → EntryLegs (split_legs d c shares (portions tie (nat_abs d.amount.0) shares)) → entering (ps, fs) e unchanged ≡ splits tie d c shares
-entering-splits tie d c shares ps qs fs e p q f drawn is =
+pub entering_splits : (tie : Tie) (d : Division) (c : Currency) (shares : List Share) (ps qs : List Minor) (fs : List Fraction) (e : Entry) → ps ≡ portions tie (nat_abs d.amount.0) shares → qs ≡ ps → fs ≡ fractions tie (nat_abs d.amount.0) shares → legs_of e ≡ entry_legs (split_legs d c shares qs) → EntryLegs (split_legs d c shares (portions tie (nat_abs d.amount.0) shares)) → entering (ps, fs) e unchanged ≡ splits tie d c shares
+entering_splits tie d c shares ps qs fs e p q f drawn is =
     let whole : legs_of e ≡ split_legs d c shares (portions tie (nat_abs d.amount.0) shares) = drawn ∙ ap (λ l. entry_legs (split_legs d c shares l)) (q ∙ p) ∙ drawn_whole _ is in
     λ i. record { answer = (p i, f i); legs = Some (whole i); change = unchanged }

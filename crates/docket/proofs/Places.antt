@@ -23,10 +23,10 @@ place_past n xs i d l e = at_drop_more (place n) xs i d l ∙ cond-false _ _ _ e
 pub place_end : (n : ℕ) (xs : List Record) (i : ℕ) → length xs ≤ i → place n (drop i xs) ≡ 0
 place_end n xs i l = at_drop_all (place n) xs i l
 
-pub place-within : (n : ℕ) (xs : List Record) → place n xs ≤ length xs
-place-within n [] = omega arith
-place-within n (x ∷ xs) =
-    let h = place-within n xs in
+pub place_within : (n : ℕ) (xs : List Record) → place n xs ≤ length xs
+place_within n [] = omega arith
+place_within n (x ∷ xs) =
+    let h = place_within n xs in
     elim (eqb x.number n) as (λ b. cond b 0 (suc (place n xs)) ≤ suc (length xs)) [ true ↦ omega arith | false ↦ omega arith ]
 
 -- ---- what stands there
@@ -57,10 +57,10 @@ without_none n [] h = refl
 without_none n (x ∷ xs) h =
     (elim (eqb x.number n) as (λ b. suc (length xs) ≤ cond b 0 (suc (place n xs)) → cond b xs (x ∷ without n xs) ≡ x ∷ xs) [ true ↦ λ k. absurd (omega arith) | false ↦ λ k. ap (λ l. x ∷ l) (without_none n xs (omega arith)) ]) h
 
-pub restated-at : (n : ℕ) (s : Standing) (xs : List Record) (d : Record) → place n xs < length xs → restated n s xs ≡ set xs (place n xs) (with_standing s (get_or xs (place n xs) d))
-restated-at n s [] d h = absurd (omega arith)
-restated-at n s (x ∷ xs) d h =
-    (elim (eqb x.number n) as (λ b. cond b 0 (suc (place n xs)) < suc (length xs) → cond b (with_standing s x ∷ xs) (x ∷ restated n s xs) ≡ set (x ∷ xs) (cond b 0 (suc (place n xs))) (with_standing s (get_or (x ∷ xs) (cond b 0 (suc (place n xs))) d))) [ true ↦ λ _. refl | false ↦ λ k. ap (λ l. x ∷ l) (restated-at n s xs d (omega arith)) ]) h
+pub restated_at : (n : ℕ) (s : Standing) (xs : List Record) (d : Record) → place n xs < length xs → restated n s xs ≡ set xs (place n xs) (with_standing s (get_or xs (place n xs) d))
+restated_at n s [] d h = absurd (omega arith)
+restated_at n s (x ∷ xs) d h =
+    (elim (eqb x.number n) as (λ b. cond b 0 (suc (place n xs)) < suc (length xs) → cond b (with_standing s x ∷ xs) (x ∷ restated n s xs) ≡ set (x ∷ xs) (cond b 0 (suc (place n xs))) (with_standing s (get_or (x ∷ xs) (cond b 0 (suc (place n xs))) d))) [ true ↦ λ _. refl | false ↦ λ k. ap (λ l. x ∷ l) (restated_at n s xs d (omega arith)) ]) h
 
 pub restated_none : (n : ℕ) (s : Standing) (xs : List Record) → length xs ≤ place n xs → restated n s xs ≡ xs
 restated_none n s [] h = refl
@@ -140,7 +140,7 @@ module _ (stored : List Record) (count : ℕ) (wide : count ≤ length stored) w
   restate_some n i s e h =
       let l = long in
       let xs = take count stored in
-      take-set_in count stored i (with_standing s (get_or stored i blank)) ∙ ap (λ r. set xs i (with_standing s r)) (sym (read i h)) ∙ ap (λ k. set xs k (with_standing s (get_or xs k blank))) e ∙ sym (restated-at n s xs blank (omega arith))
+      take-set_in count stored i (with_standing s (get_or stored i blank)) ∙ ap (λ r. set xs i (with_standing s r)) (sym (read i h)) ∙ ap (λ k. set xs k (with_standing s (get_or xs k blank))) e ∙ sym (restated_at n s xs blank (omega arith))
 
   pub restate_none : (n i : ℕ) (s : Standing) → i ≡ place n (take count stored) → count ≤ i → take count stored ≡ restated n s (take count stored)
   restate_none n i s e h = let l = long in sym (restated_none n s (take count stored) (omega arith))

@@ -14,13 +14,13 @@ use Rattle.ledger.proofs.Rises.{in_cell_off, in_cell_here, in_column_off, by_equ
 use Rattle.journal.specs.Journal.{most_records, records_taken, in_record, recorded, journal_over, journal_opened, written}
 
 -- the sum of what is left, one record on
-pub left-more : (rs : List Leg) (i : ℕ) (d : Leg) (a k : ℕ) → i < length rs → recorded (drop i rs) a k ≡ in_record (get_or rs i d) a k +ℤ recorded (drop (i + 1) rs) a k
+pub left_more : (rs : List Leg) (i : ℕ) (d : Leg) (a k : ℕ) → i < length rs → recorded (drop i rs) a k ≡ in_record (get_or rs i d) a k +ℤ recorded (drop (i + 1) rs) a k
 unfolding recorded
-left-more rs i d a k h = at_drop_more (λ xs. recorded xs a k) rs i d h
+left_more rs i d a k h = at_drop_more (λ xs. recorded xs a k) rs i d h
 
-pub left-all : (rs : List Leg) (i a k : ℕ) → length rs ≤ i → recorded (drop i rs) a k ≡ pos 0
+pub left_all : (rs : List Leg) (i a k : ℕ) → length rs ≤ i → recorded (drop i rs) a k ≡ pos 0
 unfolding recorded
-left-all rs i a k h = at_drop_all (λ xs. recorded xs a k) rs i h
+left_all rs i a k h = at_drop_all (λ xs. recorded xs a k) rs i h
 
 pub none_recorded : (a k : ℕ) → recorded [] a k ≡ pos 0
 unfolding recorded
@@ -30,14 +30,14 @@ none_recorded a k = refl
 range_in : (l : Leg) → InRange l → in_range l ≡ true
 range_in l h = and_from _ _ (le-leb _ _ h.account) (and_from _ _ (le-leb _ _ h.column) (le-leb _ _ h.amount))
 
-pub leg-recorded : (l : Leg) (a k : ℕ) → in_range l ≡ true → in_record l a k ≡ in_cell l a k
+pub leg_recorded : (l : Leg) (a k : ℕ) → in_range l ≡ true → in_record l a k ≡ in_cell l a k
 unfolding in_record
-leg-recorded l a k t = cond-true _ _ _ t
+leg_recorded l a k t = cond-true _ _ _ t
 
 pub legs_recorded : (ls : List Leg) (a k : ℕ) → AllByRecursion InRange ls → recorded ls a k ≡ rise ls a k
 unfolding recorded rise
 legs_recorded [] a k h = refl
-legs_recorded (l ∷ ls) a k h = λ i. leg-recorded l a k (range_in l h.0) i +ℤ legs_recorded ls a k h.1 i
+legs_recorded (l ∷ ls) a k h = λ i. leg_recorded l a k (range_in l h.0) i +ℤ legs_recorded ls a k h.1 i
 
 -- one that is no leg, or stands elsewhere, adds nothing
 pub elsewhere : (l : Leg) (a k : ℕ) → in_cell l a k ≡ pos 0 → in_record l a k ≡ pos 0
@@ -106,12 +106,12 @@ opened rs =
     (λ a k. refl)
 
 -- the records taken once the legs are written
-pub taken-written : (rs ls : List Leg) (n : ℕ) → length ls ≤ min (length rs) most_records - n → records_taken (written rs n ls) (n + length ls) ≡ records_taken rs n ++ ls
-taken-written rs [] n room =
+pub taken_written : (rs ls : List Leg) (n : ℕ) → length ls ≤ min (length rs) most_records - n → records_taken (written rs n ls) (n + length ls) ≡ records_taken rs n ++ ls
+taken_written rs [] n room =
     ap (λ xs. records_taken xs (n + 0)) (ap (λ j. take n rs ++ drop j rs) (add-zero n) ∙ take-append-drop n rs)
     ∙ ap (records_taken rs) (add-zero n)
     ∙ sym (append-nil _)
-taken-written rs (l ∷ ls) n room =
+taken_written rs (l ∷ ls) n room =
     let few : n + length (l ∷ ls) ≤ min (length rs) most_records = omega arith in
     let long : length (take n rs ++ (l ∷ ls)) ≡ n + length (l ∷ ls) = simp (length-append, length-take) (omega arith) in
     let all : min (n + length (l ∷ ls)) most_records ≡ n + length (l ∷ ls) = omega arith in
@@ -129,6 +129,6 @@ unfolding entered
 entered-written rs ls n h room =
     same_meaning (journal_over (written rs n ls) (n + length ls)) (entered (journal_over rs n) ls)
     (omega (arith, length-written rs ls n room))
-    (λ a k. ap (λ xs. where_listed (recorded xs) a k) (taken-written rs ls n room) ∙ cells_after_lem (records_taken rs n) ls a k h)
+    (λ a k. ap (λ xs. where_listed (recorded xs) a k) (taken_written rs ls n room) ∙ cells_after_lem (records_taken rs n) ls a k h)
     (λ a k. refl)
     (λ a k. refl)

@@ -100,5 +100,5 @@ apart (Money c) (Fraction g) e = absurd (omega (arith, e, currency_bound c, (fra
 apart (Fraction f) (Money d) e = absurd (omega (arith, e, currency_bound d, (fraction_bounds f).0))
 apart (Fraction f) (Fraction g) e = let s : Some f ≡ Some g = sym (fraction f) ∙ ap fraction_numbered e ∙ fraction g in cc
 
-pub columns-numbered : ColumnsNumbered
-columns-numbered = record { within = within; every = every; apart = apart; fraction = fraction; fraction_is = fraction_is_lem }
+pub columns_numbered : ColumnsNumbered
+columns_numbered = record { within = within; every = every; apart = apart; fraction = fraction; fraction_is = fraction_is_lem }

@@ -11,9 +11,9 @@ use Rattle.ledger.specs.Limits.{accounts}
 use Rattle.ledger.specs.Entries.{InRange, EntryLegs}
 use Rattle.ledger.specs.Meaning.{Meaning, inside, entered, fits, stops, verdict, after}
 use Rattle.ledger.specs.Laws.{Accepted, Conserved}
-use Rattle.ledger.proofs.Rises.{sum_add, rise-sum, rise_one, by_equal, in_cell_off, in_cell_here, in_column_off}
-use Rattle.ledger.proofs.Meanings.{entered_none, entered-append, after-taken, after_refused}
-use Rattle.ledger.proofs.Walk.{cond-taken, verdict-taken}
+use Rattle.ledger.proofs.Rises.{sum_add, rise_sum, rise_one, by_equal, in_cell_off, in_cell_here, in_column_off}
+use Rattle.ledger.proofs.Meanings.{entered_none, entered-append, after_taken, after_refused}
+use Rattle.ledger.proofs.Walk.{cond_taken, verdict_taken}
 
 -- one leg more: its own cell was tested, and no other cell changed
 one_leg_lem : (m : Meaning) (l : Leg) (a k : ℕ) → fits (entered m (l ∷ [])) l ≡ true → inside m a k (m.cell a k) ≡ true → inside (entered m (l ∷ [])) a k ((entered m (l ∷ [])).cell a k) ≡ true
@@ -31,7 +31,7 @@ keeps : (m : Meaning) (n : ℕ) (ls : List Leg) → stops m n ls ≡ Ok tt → (
 unfolding stops
 keeps m n [] e a k h = subst (λ w. inside w a k (w.cell a k) ≡ true) (sym (entered_none m)) h
 keeps m n (l ∷ ls) e a k h =
-    let p = cond-taken _ _ _ e in
+    let p = cond_taken _ _ _ e in
     let on : inside (entered m (l ∷ [])) a k ((entered m (l ∷ [])).cell a k) ≡ true = one_leg_lem m l a k p.0 h in
     subst (λ w. inside w a k (w.cell a k) ≡ true) (entered-append m (l ∷ []) ls) (keeps (entered m (l ∷ [])) (n + 1) ls p.1 a k on)
 
@@ -40,7 +40,7 @@ all_fit : (m : Meaning) (n : ℕ) (ls : List Leg) → stops m n ls ≡ Ok tt →
 unfolding stops
 all_fit m n [] e = tt
 all_fit m n (l ∷ ls) e =
-    let p = cond-taken _ _ _ e in
+    let p = cond_taken _ _ _ e in
     let same = entered-append m (l ∷ []) ls in (
       subst (λ w. fits w l ≡ true) same (keeps (entered m (l ∷ [])) (n + 1) ls p.1 l.account l.column p.0),
       subst (λ w. AllByRecursion (λ x. fits w x ≡ true) ls) same (all_fit (entered m (l ∷ [])) (n + 1) ls p.1),
@@ -52,14 +52,14 @@ unfolding entered
 same_sum m ls h k =
     let add : sum_to accounts (λ a. m.cell a k +ℤ rise ls a k) ≡ sum_to accounts (λ a. m.cell a k) +ℤ sum_to accounts (λ a. rise ls a k) = sum_add accounts (λ a. m.cell a k) (λ a. rise ls a k) in
     let all : AllByRecursion (λ l. l.account < accounts) ls = All-weaker InRange (λ l. l.account < accounts) (λ l r. omega (arith, r.account)) ls h.each in
-    let sum : sum_to accounts (λ a. rise ls a k) ≡ column_sum ls k = rise-sum accounts ls k all in
+    let sum : sum_to accounts (λ a. rise ls a k) ≡ column_sum ls k = rise_sum accounts ls k all in
     let none : column_sum ls k ≡ pos 0 = h.balanced k in
     omega (arith, ints)
 
 accepted : (m : Meaning) (ls : List Leg) → EntryLegs ls → verdict m ls ≡ Ok tt → Accepted m (entered m ls) ls
 unfolding entered
 accepted m ls h e =
-    let p = verdict-taken m ls e in
+    let p = verdict_taken m ls e in
     record {
       columns = same_sum m ls h;
       cells = λ a k. refl;
@@ -70,5 +70,5 @@ accepted m ls h e =
     }
 
 pub conserves : (m n : Meaning) (ls : List Leg) (r : Result (Unit {0}) LedgerFault) → EntryLegs ls → ledger_answer r ≡ verdict m ls → n ≡ after m ls → Conserved m n ls r
-conserves m n ls (Ok x) h v e = subst (λ w. Accepted m w ls) (sym (e ∙ after-taken m ls (sym v))) (accepted m ls h (sym v))
+conserves m n ls (Ok x) h v e = subst (λ w. Accepted m w ls) (sym (e ∙ after_taken m ls (sym v))) (accepted m ls h (sym v))
 conserves m n ls (Err f) h v e = e ∙ after_refused m ls _ (sym v)

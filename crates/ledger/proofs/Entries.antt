@@ -9,9 +9,9 @@ use Rattle.ledger.specs.Entries.{InRange, EntryLegs, in_range, all_in_range, is_
 use Rattle.ledger.proofs.Rises.{by_equal, column_off}
 
 -- one leg on
-pub range-more : (ls : List Leg) (i : ℕ) (d : Leg) → i < length ls → all_in_range (drop i ls) ≡ (in_range (get_or ls i d) && all_in_range (drop (i + 1) ls))
+pub range_more : (ls : List Leg) (i : ℕ) (d : Leg) → i < length ls → all_in_range (drop i ls) ≡ (in_range (get_or ls i d) && all_in_range (drop (i + 1) ls))
 unfolding all_in_range
-range-more ls i d h = at_drop_more all_in_range ls i d h
+range_more ls i d h = at_drop_more all_in_range ls i d h
 
 pub range_all : (ls : List Leg) (i : ℕ) → length ls ≤ i → all_in_range (drop i ls) ≡ true
 unfolding all_in_range
@@ -44,10 +44,10 @@ unfolding all_in_range
 all_in_range_lem [] e = tt
 all_in_range_lem (l ∷ ls) e = let p = and_parts _ _ e in (in_range_lem l p.0, all_in_range_lem ls p.1)
 
-range-all_in : (ls : List Leg) → AllByRecursion InRange ls → all_in_range ls ≡ true
+range_all_in : (ls : List Leg) → AllByRecursion InRange ls → all_in_range ls ≡ true
 unfolding all_in_range
-range-all_in [] h = refl
-range-all_in (l ∷ ls) h = and_from _ _ (range_in l h.0) (range-all_in ls h.1)
+range_all_in [] h = refl
+range_all_in (l ∷ ls) h = and_from _ _ (range_in l h.0) (range_all_in ls h.1)
 
 is_zero_lem : (z : ℤ) → is_zero z ≡ true → z ≡ pos 0
 is_zero_lem (pos n) e = ap pos (eqb-true n 0 e)
@@ -78,7 +78,7 @@ entry_legs_lem ls e =
 
 pub legs_entry : (ls : List Leg) → EntryLegs ls → is_entry ls ≡ true
 unfolding is_entry
-legs_entry ls h = and_from _ _ (le-leb _ _ h.few) (and_from _ _ (range-all_in ls h.each) (at_zero ls ls h.balanced))
+legs_entry ls h = and_from _ _ (le-leb _ _ h.few) (and_from _ _ (range_all_in ls h.each) (at_zero ls ls h.balanced))
 
 pub entry_decides : (ls : List Leg) → Decides (is_entry ls) (EntryLegs ls)
 entry_decides ls = (entry_legs_lem ls, legs_entry ls)

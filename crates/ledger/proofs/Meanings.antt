@@ -28,11 +28,11 @@ entered-append m xs ys =
     (λ a k. refl)
 
 -- one leg more of a list
-pub entered-more : (m : Meaning) (ls : List Leg) (i : ℕ) (d : Leg) → i < length ls → entered (entered m (take i ls)) (get_or ls i d ∷ []) ≡ entered m (take (i + 1) ls)
-entered-more m ls i d h = entered-append m (take i ls) (get_or ls i d ∷ []) ∙ ap (entered m) (sym (take_more ls i d h))
+pub entered_more : (m : Meaning) (ls : List Leg) (i : ℕ) (d : Leg) → i < length ls → entered (entered m (take i ls)) (get_or ls i d ∷ []) ≡ entered m (take (i + 1) ls)
+entered_more m ls i d h = entered-append m (take i ls) (get_or ls i d ∷ []) ∙ ap (entered m) (sym (take_more ls i d h))
 
-pub after-taken : (m : Meaning) (ls : List Leg) → verdict m ls ≡ Ok tt → after m ls ≡ entered m ls
-after-taken m ls e = ap (λ r. settled r (entered m ls) m) e
+pub after_taken : (m : Meaning) (ls : List Leg) → verdict m ls ≡ Ok tt → after m ls ≡ entered m ls
+after_taken m ls e = ap (λ r. settled r (entered m ls) m) e
 
 pub after_refused : (m : Meaning) (ls : List Leg) (f : Refusal) → verdict m ls ≡ Err f → after m ls ≡ m
 after_refused m ls f e = ap (λ r. settled r (entered m ls) m) e
@@ -47,6 +47,6 @@ pub row_reads : (m : Meaning) (a k : ℕ) (d : ℤ) → k < columns → get_or (
 unfolding row_of
 row_reads m a k d h = get_or-map-range_with_len (m.cell a) 0 columns k k d h (omega arith)
 
-pub row-length : (m : Meaning) (a : ℕ) → length (row_of m a) ≡ columns
+pub row_length : (m : Meaning) (a : ℕ) → length (row_of m a) ≡ columns
 unfolding row_of
-row-length m a = length-map-range_with_len (m.cell a) 0 columns
+row_length m a = length-map-range_with_len (m.cell a) 0 columns

@@ -55,13 +55,13 @@ column_append [] ys k = omega (arith, ints)
 column_append (x ∷ xs) ys k = let h : column_sum (xs ++ ys) k ≡ column_sum xs k +ℤ column_sum ys k = column_append xs ys k in omega (arith, ints)
 
 -- the sum of what is left, one leg on
-pub rise-left_more : (ls : List Leg) (i : ℕ) (d : Leg) (a k : ℕ) → i < length ls → rise (drop i ls) a k ≡ in_cell (get_or ls i d) a k +ℤ rise (drop (i + 1) ls) a k
+pub rise_left_more : (ls : List Leg) (i : ℕ) (d : Leg) (a k : ℕ) → i < length ls → rise (drop i ls) a k ≡ in_cell (get_or ls i d) a k +ℤ rise (drop (i + 1) ls) a k
 unfolding rise
-rise-left_more ls i d a k h = at_drop_more (λ xs. rise xs a k) ls i d h
+rise_left_more ls i d a k h = at_drop_more (λ xs. rise xs a k) ls i d h
 
-pub rise-left_all : (ls : List Leg) (i a k : ℕ) → length ls ≤ i → rise (drop i ls) a k ≡ pos 0
+pub rise_left_all : (ls : List Leg) (i a k : ℕ) → length ls ≤ i → rise (drop i ls) a k ≡ pos 0
 unfolding rise
-rise-left_all ls i a k h = at_drop_all (λ xs. rise xs a k) ls i h
+rise_left_all ls i a k h = at_drop_all (λ xs. rise xs a k) ls i h
 
 pub column_left_more : (ls : List Leg) (i : ℕ) (d : Leg) (k : ℕ) → i < length ls → column_sum (drop i ls) k ≡ in_column (get_or ls i d) k +ℤ column_sum (drop (i + 1) ls) k
 unfolding column_sum
@@ -99,26 +99,26 @@ leg_past (suc n) l k h =
     let j : in_cell l n k ≡ pos 0 = in_cell_off l n k (omega arith) in
     omega (arith, ints)
 
-leg-sum : (n : ℕ) (l : Leg) (k : ℕ) → l.account < n → sum_to n (λ a. in_cell l a k) ≡ in_column l k
+leg_sum : (n : ℕ) (l : Leg) (k : ℕ) → l.account < n → sum_to n (λ a. in_cell l a k) ≡ in_column l k
 unfolding sum_to
-leg-sum zero l k h = absurd (omega arith)
-leg-sum (suc n) l k h =
+leg_sum zero l k h = absurd (omega arith)
+leg_sum (suc n) l k h =
     by_equal l.account n
     (λ e.
     let i : sum_to n (λ a. in_cell l a k) ≡ pos 0 = leg_past n l k (omega arith) in
     let j : in_cell l n k ≡ in_column l k = in_cell_here l n k e in
     omega (arith, ints))
     (λ ne.
-    let i : sum_to n (λ a. in_cell l a k) ≡ in_column l k = leg-sum n l k (omega arith) in
+    let i : sum_to n (λ a. in_cell l a k) ≡ in_column l k = leg_sum n l k (omega arith) in
     let j : in_cell l n k ≡ pos 0 = in_cell_off l n k ne in
     omega (arith, ints))
 
 -- over all accounts, what legs add to a column's cells is their sum in the column
-pub rise-sum : (n : ℕ) (ls : List Leg) (k : ℕ) → AllByRecursion (λ l. l.account < n) ls → sum_to n (λ a. rise ls a k) ≡ column_sum ls k
+pub rise_sum : (n : ℕ) (ls : List Leg) (k : ℕ) → AllByRecursion (λ l. l.account < n) ls → sum_to n (λ a. rise ls a k) ≡ column_sum ls k
 unfolding rise column_sum
-rise-sum n [] k h = sum_zero n
-rise-sum n (l ∷ ls) k h =
-    let i : sum_to n (λ a. rise ls a k) ≡ column_sum ls k = rise-sum n ls k h.1 in
-    let j : sum_to n (λ a. in_cell l a k) ≡ in_column l k = leg-sum n l k h.0 in
+rise_sum n [] k h = sum_zero n
+rise_sum n (l ∷ ls) k h =
+    let i : sum_to n (λ a. rise ls a k) ≡ column_sum ls k = rise_sum n ls k h.1 in
+    let j : sum_to n (λ a. in_cell l a k) ≡ in_column l k = leg_sum n l k h.0 in
     let s : sum_to n (λ a. in_cell l a k +ℤ rise ls a k) ≡ sum_to n (λ a. in_cell l a k) +ℤ sum_to n (λ a. rise ls a k) = sum_add n (λ a. in_cell l a k) (λ a. rise ls a k) in
     omega (arith, ints)

@@ -5,7 +5,7 @@ use Rattle.std.proofs.lemmas.Bool.{cond-true, cond-false, lt-ltb, le-ltb, ltb-fa
 use Rattle.register.specs.Register.{Refusal, by_ledger}
 use Rattle.ledger.specs.declared.leg.Leg.{Leg}
 use Rattle.ledger.specs.Meaning.{Meaning, entered, fits, stops, verdict}
-use Rattle.ledger.proofs.Meanings.{entered_none, entered-more}
+use Rattle.ledger.proofs.Meanings.{entered_none, entered_more}
 
 -- the walk from leg i on, the first i having been entered
 abbrev pub left : Meaning → List Leg → ℕ → Result (Unit {0}) Refusal
@@ -14,15 +14,15 @@ left m ls i = stops (entered m (take i ls)) (i + 1) (drop i ls)
 pub left_none : (m : Meaning) (ls : List Leg) → left m ls 0 ≡ stops m 1 ls
 left_none m ls = ap (λ n. stops n 1 ls) (entered_none m)
 
-pub left-more : (m : Meaning) (ls : List Leg) (i : ℕ) (d : Leg) → i < length ls → left m ls i ≡ cond (fits (entered m (take (i + 1) ls)) (get_or ls i d)) (left m ls (i + 1)) (Err (by_ledger 18 (i + 1) 0))
+pub left_more : (m : Meaning) (ls : List Leg) (i : ℕ) (d : Leg) → i < length ls → left m ls i ≡ cond (fits (entered m (take (i + 1) ls)) (get_or ls i d)) (left m ls (i + 1)) (Err (by_ledger 18 (i + 1) 0))
 unfolding stops
-left-more m ls i d h =
+left_more m ls i d h =
     at_drop_more (stops (entered m (take i ls)) (i + 1)) ls i d h
-    ∙ ap (λ n. cond (fits n (get_or ls i d)) (stops n (i + 1 + 1) (drop (i + 1) ls)) (Err (by_ledger 18 (i + 1) 0))) (entered-more m ls i d h)
+    ∙ ap (λ n. cond (fits n (get_or ls i d)) (stops n (i + 1 + 1) (drop (i + 1) ls)) (Err (by_ledger 18 (i + 1) 0))) (entered_more m ls i d h)
 
-pub left-all : (m : Meaning) (ls : List Leg) (i : ℕ) → length ls ≤ i → left m ls i ≡ Ok tt
+pub left_all : (m : Meaning) (ls : List Leg) (i : ℕ) → length ls ≤ i → left m ls i ≡ Ok tt
 unfolding stops
-left-all m ls i h = at_drop_all (stops (entered m (take i ls)) (i + 1)) ls i h
+left_all m ls i h = at_drop_all (stops (entered m (take i ls)) (i + 1)) ls i h
 
 pub verdict_room : (m : Meaning) (ls : List Leg) → m.room < length ls → verdict m ls ≡ Err (by_ledger 17 0 0)
 unfolding verdict
@@ -33,24 +33,24 @@ unfolding verdict
 verdict_walk m ls h = cond-false _ _ _ (le-ltb m.room (length ls) h) ∙ sym (left_none m ls)
 
 -- a walk that ends well does not stop at this leg, nor after it
-pub cond-taken : (b : Bool) (r : Result (Unit {0}) Refusal) (f : Refusal) → cond b r (Err f) ≡ Ok tt → (b ≡ true) × (r ≡ Ok tt)
-cond-taken true r f e = (refl, e)
-cond-taken false r f e = absurd (let z : ◌≡◌ {A = ℕ} 0 1 = cc in omega arith)
+pub cond_taken : (b : Bool) (r : Result (Unit {0}) Refusal) (f : Refusal) → cond b r (Err f) ≡ Ok tt → (b ≡ true) × (r ≡ Ok tt)
+cond_taken true r f e = (refl, e)
+cond_taken false r f e = absurd (let z : ◌≡◌ {A = ℕ} 0 1 = cc in omega arith)
 
 cond_passed : (b : Bool) (r : Result (Unit {0}) Refusal) (f : Refusal) → cond b (Err f) r ≡ Ok tt → (b ≡ false) × (r ≡ Ok tt)
 cond_passed false r f e = (refl, e)
 cond_passed true r f e = absurd (let z : ◌≡◌ {A = ℕ} 0 1 = cc in omega arith)
 
 pub left_step : (m : Meaning) (ls : List Leg) (i : ℕ) (d : Leg) → i < length ls → left m ls i ≡ Ok tt → (fits (entered m (take (i + 1) ls)) (get_or ls i d) ≡ true) × (left m ls (i + 1) ≡ Ok tt)
-left_step m ls i d h e = cond-taken _ _ _ (sym (left-more m ls i d h) ∙ e)
+left_step m ls i d h e = cond_taken _ _ _ (sym (left_more m ls i d h) ∙ e)
 
-pub verdict-taken : (m : Meaning) (ls : List Leg) → verdict m ls ≡ Ok tt → (length ls ≤ m.room) × (stops m 1 ls ≡ Ok tt)
+pub verdict_taken : (m : Meaning) (ls : List Leg) → verdict m ls ≡ Ok tt → (length ls ≤ m.room) × (stops m 1 ls ≡ Ok tt)
 unfolding verdict
-verdict-taken m ls e = let p = cond_passed (ltb m.room (length ls)) (stops m 1 ls) _ e in (ltb-false _ _ p.0, p.1)
+verdict_taken m ls e = let p = cond_passed (ltb m.room (length ls)) (stops m 1 ls) _ e in (ltb-false _ _ p.0, p.1)
 
 -- the walk stopped at leg i, or ended
 pub verdict_stopped : (m : Meaning) (ls : List Leg) (i : ℕ) (d : Leg) → length ls ≤ m.room → i < length ls → left m ls i ≡ left m ls 0 → fits (entered m (take (i + 1) ls)) (get_or ls i d) ≡ false → Err (by_ledger 18 (i + 1) 0) ≡ verdict m ls
-verdict_stopped m ls i d enough h same out = sym (verdict_walk m ls enough ∙ sym same ∙ left-more m ls i d h ∙ cond-false _ _ _ out)
+verdict_stopped m ls i d enough h same out = sym (verdict_walk m ls enough ∙ sym same ∙ left_more m ls i d h ∙ cond-false _ _ _ out)
 
 pub verdict_walked : (m : Meaning) (ls : List Leg) (i : ℕ) → length ls ≤ m.room → length ls ≤ i → left m ls i ≡ left m ls 0 → Ok tt ≡ verdict m ls
-verdict_walked m ls i enough h same = sym (verdict_walk m ls enough ∙ sym same ∙ left-all m ls i h)
+verdict_walked m ls i enough h same = sym (verdict_walk m ls enough ∙ sym same ∙ left_all m ls i h)

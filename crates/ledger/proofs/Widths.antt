@@ -15,14 +15,14 @@ module _ (z r : ℤ) (n : ℕ) (h : mag z < 2 ^ 63) (k : nat_abs r ≤ n * 2 ^ 6
   number_fits : SFits w128 z
   number_fits = record { sfits = omega arith }
 
-  rise-fits : SFits w128 r
-  rise-fits = fits_in w128 r (omega (arith, ints))
+  rise_fits : SFits w128 r
+  rise_fits = fits_in w128 r (omega (arith, ints))
 
   sum_fits : SFits w128 (z +ℤ r)
   sum_fits = fits_in w128 (z +ℤ r) (omega (arith, ints))
 
   pub sum_back : to_z w128 (of_z w128 (to_z w128 (of_z w128 (to_z w64 (of_z w64 z))) +ℤ to_z w128 (of_z w128 r))) ≡ z +ℤ r
-  sum_back = rw (read_back z h, to_z-of_z w128 z number_fits, to_z-of_z w128 r rise-fits) (to_z-of_z w128 (z +ℤ r) sum_fits)
+  sum_back = rw (read_back z h, to_z-of_z w128 z number_fits, to_z-of_z w128 r rise_fits) (to_z-of_z w128 (z +ℤ r) sum_fits)
 
 -- a number of 64 bits is added to the sum s of n
 module _ (s x : ℤ) (n : ℕ) (h : mag x < 2 ^ 63) (k : nat_abs s ≤ n * 2 ^ 63) (few : n + 1 < 2 ^ 64) where

@@ -20,7 +20,7 @@ use Rattle.model.proofs.Accepted.{and_then_lem, ok_same, passed, found_there, Na
 use Rattle.model.proofs.Changes.{Turning, held≢never, given_known}
 use Rattle.model.proofs.Docket.{recorded, is_there, Found, found_is}
 use Rattle.model.proofs.Kept.{Balanced, Sound, Kept}
-use Rattle.model.proofs.Legs.{origin_from, origin_column, origin-all, origin_past}
+use Rattle.model.proofs.Legs.{origin_from, origin_column, origin_all, origin_past}
 use Rattle.model.proofs.Slips.{cond_same, cond_other}
 use Rattle.model.proofs.Sums.{nothing_euro, nothing_national}
 
@@ -118,7 +118,7 @@ carry_balanced m n a w f =
     let hi : a < accounts = f.high in
     let past : (k : ℕ) → rise (origin_legs 1 a w) 0 k ≡ pos 0 = λ k. origin_past 1 a 0 w k (omega arith) (omega arith) in
     record {
-      within = origin-all (λ l. l.account < accounts) 1 a w (λ _ _. omega arith) (λ _ _. hi);
+      within = origin_all (λ l. l.account < accounts) 1 a w (λ _ _. omega arith) (λ _ _. hi);
       columns = λ k. origin_column 1 a w k;
       euro = λ i. nothing_euro _ _ _ (past _);
       national = λ j. nothing_national _ _ (past _);

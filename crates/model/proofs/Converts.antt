@@ -37,7 +37,7 @@ use Rattle.model.proofs.Accepted.{and_then_lem, ok_same, cond_then, cond_else, N
 use Rattle.model.proofs.Carries.{told_record}
 use Rattle.model.proofs.Docket.{recorded}
 use Rattle.model.proofs.Kept.{Balanced, Sound, Kept}
-use Rattle.model.proofs.Legs.{at_off, rise_off, rise_beside, pair_column, origin_to, origin_from, origin_column, origin-all}
+use Rattle.model.proofs.Legs.{at_off, rise_off, rise_beside, pair_column, origin_to, origin_from, origin_column, origin_all}
 use Rattle.model.proofs.Slips.{cond_same, cond_other}
 
 -- ---- what a conversion has passed
@@ -209,7 +209,7 @@ convert_balanced x from to n b f =
     let p : x.from < accounts = f.payer.high in
     let q : x.to < accounts = f.payee.high in
     record {
-      within = (p, (omega arith, (omega arith, (q, origin-all (λ l. l.account < accounts) 0 1 w (λ _ _. omega arith) (λ _ _. omega arith)))));
+      within = (p, (omega arith, (omega arith, (q, origin_all (λ l. l.account < accounts) 0 1 w (λ _ _. omega arith) (λ _ _. omega arith)))));
       columns = λ k. column_sum_lem x b.0 w k;
       euro = λ i.
           let low = national_bounds i in

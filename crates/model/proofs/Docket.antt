@@ -50,12 +50,12 @@ without_right n (x ∷ xs) ys e =
 without_none : (n : ℕ) (xs : List Record) → found n xs ≡ None → without n xs ≡ xs
 without_none n xs e = sym (ap (without n) (append-nil xs)) ∙ without_right n xs [] e ∙ append-nil xs
 
-without-left : (n : ℕ) (xs ys : List Record) → found n ys ≡ None → without n (xs ++ ys) ≡ without n xs ++ ys
-without-left n [] ys e = without_none n ys e
-without-left n (x ∷ xs) ys e =
+without_left : (n : ℕ) (xs ys : List Record) → found n ys ≡ None → without n (xs ++ ys) ≡ without n xs ++ ys
+without_left n [] ys e = without_none n ys e
+without_left n (x ∷ xs) ys e =
     elim (eqb x.number n) as (λ b. cond b (xs ++ ys) (x ∷ without n (xs ++ ys)) ≡ cond b xs (x ∷ without n xs) ++ ys) [
       | true ↦ refl
-      | false ↦ ap (λ (l : List Record). x ∷ l) (without-left n xs ys e)
+      | false ↦ ap (λ (l : List Record). x ∷ l) (without_left n xs ys e)
     ]
 
 restated_right : (n : ℕ) (p : Standing) (xs ys : List Record) → found n xs ≡ None → restated n p (xs ++ ys) ≡ xs ++ restated n p ys
@@ -69,12 +69,12 @@ restated_right n p (x ∷ xs) ys e =
 restated_none : (n : ℕ) (p : Standing) (xs : List Record) → found n xs ≡ None → restated n p xs ≡ xs
 restated_none n p xs e = sym (ap (restated n p) (append-nil xs)) ∙ restated_right n p xs [] e ∙ append-nil xs
 
-restated-left : (n : ℕ) (p : Standing) (xs ys : List Record) → found n ys ≡ None → restated n p (xs ++ ys) ≡ restated n p xs ++ ys
-restated-left n p [] ys e = restated_none n p ys e
-restated-left n p (x ∷ xs) ys e =
+restated_left : (n : ℕ) (p : Standing) (xs ys : List Record) → found n ys ≡ None → restated n p (xs ++ ys) ≡ restated n p xs ++ ys
+restated_left n p [] ys e = restated_none n p ys e
+restated_left n p (x ∷ xs) ys e =
     elim (eqb x.number n) as (λ b. cond b (with_standing p x ∷ (xs ++ ys)) (x ∷ restated n p (xs ++ ys)) ≡ cond b (with_standing p x ∷ xs) (x ∷ restated n p xs) ++ ys) [
       | true ↦ refl
-      | false ↦ ap (λ (l : List Record). x ∷ l) (restated-left n p xs ys e)
+      | false ↦ ap (λ (l : List Record). x ∷ l) (restated_left n p xs ys e)
     ]
 
 -- ---- one number
@@ -157,7 +157,7 @@ strike n a t t' w (suc g) e d =
     (ap (λ (m : ℕ). without m (record_for (t (suc g)) (suc g) (w (suc g)))) (sym q) ∙ struck (t (suc g)) (suc g) (w (suc g))
     ∙ ap (λ (s : Status). record_for s (suc g) (w (suc g))) (sym (ap t' q ∙ e))))
     (λ ne.
-    without-left n (not_carried t w g) (record_for (t (suc g)) (suc g) (w (suc g))) (other_number (t (suc g)) (suc g) n (w (suc g)) ne)
+    without_left n (not_carried t w g) (record_for (t (suc g)) (suc g) (w (suc g))) (other_number (t (suc g)) (suc g) n (w (suc g)) ne)
     ∙ ap₂ (λ (x y : List Record). x ++ y) (strike n a t t' w g e d) (ap (λ (s : Status). record_for s (suc g) (w (suc g))) (sym (d (suc g) ne))))
 
 pub restate : (n : ℕ) (q p : Standing) (t t' : ℕ → Status) (w : ℕ → Origin) (g : ℕ)
@@ -172,5 +172,5 @@ restate n q p t t' w (suc g) a e d =
     (ap₂ (λ (m : ℕ) (s : Status). restated m p (record_for s (suc g) (w (suc g)))) (sym k) (ap t k ∙ a) ∙ restated_same q p (suc g) (w (suc g))
     ∙ ap (λ (s : Status). record_for s (suc g) (w (suc g))) (sym (ap t' k ∙ e))))
     (λ ne.
-    restated-left n p (not_carried t w g) (record_for (t (suc g)) (suc g) (w (suc g))) (other_number (t (suc g)) (suc g) n (w (suc g)) ne)
+    restated_left n p (not_carried t w g) (record_for (t (suc g)) (suc g) (w (suc g))) (other_number (t (suc g)) (suc g) n (w (suc g)) ne)
     ∙ ap₂ (λ (x y : List Record). x ++ y) (restate n q p t t' w g a e d) (ap (λ (s : Status). record_for s (suc g) (w (suc g))) (sym (d (suc g) ne))))

@@ -12,7 +12,7 @@ use Rattle.ledger.specs.Legs.{column_sum, rise, sum_to}
 use Rattle.ledger.specs.Limits.{accounts, columns}
 use Rattle.ledger.specs.Meaning.{Meaning, entered}
 use Rattle.ledger.proofs.Rises.{rise_none}
-use Rattle.ledger.proofs.Walk.{verdict-taken}
+use Rattle.ledger.proofs.Walk.{verdict_taken}
 use Rattle.model.specs.Calls.{Call, Reply}
 use Rattle.model.specs.Conservation.{slips, beside_exchange, Exact, Due, EachAccepted, SplitFairly}
 use Rattle.model.specs.History.{Event, event, Mention, mention, status, origin, numbers_given, given_by, carries_of, account_of, legs_by, risen, legs_taken, tally, of_conversions, exact_out, cents_booked, mills_passed, exact_in, units_booked, swept_from}
@@ -90,15 +90,15 @@ cell_after m (Some ls) a k = refl
 room_after : (m : Meaning) (ls : Option (List Leg)) (x : Unit {0}) → ledger_verdict m ls ≡ Ok x → (ledger_after m ls).room + length (legs_in ls) ≡ m.room
 unfolding entered
 room_after m None x e = omega arith
-room_after m (Some ls) x e = let h : length ls ≤ m.room = (verdict-taken m ls e).0 in omega arith
+room_after m (Some ls) x e = let h : length ls ≤ m.room = (verdict_taken m ls e).0 in omega arith
 
 -- the cells after an accepted call, by the legs that the history tells
 cell_told : (o s : State) (h : List Event) (c : Call) (v : Movement (Reply c)) → Sound o s h c v → (a k : ℕ) → (moved s v).ledger.cell a k ≡ s.ledger.cell a k +ℤ rise (legs_by (origin h) c v.answer) a k
 cell_told o s h c v f a k = cell_after s.ledger v.legs a k ∙ ap (λ (ls : List Leg). s.ledger.cell a k +ℤ rise ls a k) f.told
 
-count-step : (o s : State) (h : List Event) (c : Call) (v : Movement (Reply c)) → Sound o s h c v → s.given ≡ slips h → given_after s.given v.change ≡ slips (event c (Ok v.answer) ∷ h)
+count_step : (o s : State) (h : List Event) (c : Call) (v : Movement (Reply c)) → Sound o s h c v → s.given ≡ slips h → given_after s.given v.change ≡ slips (event c (Ok v.answer) ∷ h)
 unfolding numbers_given
-count-step o s h c v f e = f.count ∙ ap (λ (n : ℕ). n + length (given_by (mention c v.answer))) e ∙ sym (length-append (numbers_given h) (given_by (mention c v.answer)))
+count_step o s h c v f e = f.count ∙ ap (λ (n : ℕ). n + length (given_by (mention c v.answer))) e ∙ sym (length-append (numbers_given h) (given_by (mention c v.answer)))
 
 pub kept_step : (o s : State) (h : List Event) (c : Call) (v : Movement (Reply c)) (x : Unit {0}) → ledger_verdict s.ledger v.legs ≡ Ok x → Sound o s h c v → Kept o s h → Kept o (moved s v) (event c (Ok v.answer) ∷ h)
 unfolding status numbers_given carries_of risen legs_taken
@@ -110,7 +110,7 @@ kept_step o s h c v taken t f k =
       kind = k.kind;
       fit = k.fit;
       mark = k.mark;
-      count = count-step o s h c v f k.count;
+      count = count_step o s h c v f k.count;
       track = track_change v.change s.given s.docket (status h) (status (event c (Ok v.answer) ∷ h)) (origin h) (origin (event c (Ok v.answer) ∷ h)) f.makes k.track;
       numbers = numbers_more m (numbers_given h) (status h) f.timely k.numbers;
       once = λ n. once_more m (status h) n (carries_of h n) may (k.once n);

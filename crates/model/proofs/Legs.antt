@@ -123,10 +123,10 @@ origin_column p q w k =
     let b = residue_column p q 22 w.to w.national k in
     omega (arith, ints)
 
-pub origin-all : (P : Leg → Type 0) (p q : ℕ) (w : Origin) → ((k : ℕ) (x : ℤ) → P (leg p k x)) → ((k : ℕ) (x : ℤ) → P (leg q k x)) → AllByRecursion P (origin_legs p q w)
-origin-all P p q w f g =
+pub origin_all : (P : Leg → Type 0) (p q : ℕ) (w : Origin) → ((k : ℕ) (x : ℤ) → P (leg p k x)) → ((k : ℕ) (x : ℤ) → P (leg q k x)) → AllByRecursion P (origin_legs p q w)
+origin_all P p q w f g =
     All-append P (residue_legs p q 11 w.from w.euro) (residue_legs p q 22 w.to w.national)
     (residue_all P p q 11 w.from w.euro f g) (residue_all P p q 22 w.to w.national f g)
 
 pub origin_past : (p q a : ℕ) (w : Origin) (k : ℕ) → p ≢ a → q ≢ a → rise (origin_legs p q w) a k ≡ pos 0
-origin_past p q a w k n m = rise_elsewhere (origin_legs p q w) a k (origin-all (λ l. l.account ≢ a) p q w (λ _ _. n) (λ _ _. m))
+origin_past p q a w k n m = rise_elsewhere (origin_legs p q w) a k (origin_all (λ l. l.account ≢ a) p q w (λ _ _. n) (λ _ _. m))

@@ -44,10 +44,10 @@ all_named (s ∷ shares) f = (is_named s.account (f 0 (omega arith)), all_named 
 
 -- ---- the legs
 
-portions-told : (k : ℕ) (shares : List Share) (given : List Minor) → portion_legs k shares given ≡ share_legs k shares given
-portions-told k [] given = refl
-portions-told k (s ∷ shares) [] = refl
-portions-told k (s ∷ shares) (b ∷ given) = ap (λ (ls : List Leg). leg s.account k b.0 ∷ ls) (portions-told k shares given)
+portions_told : (k : ℕ) (shares : List Share) (given : List Minor) → portion_legs k shares given ≡ share_legs k shares given
+portions_told k [] given = refl
+portions_told k (s ∷ shares) [] = refl
+portions_told k (s ∷ shares) (b ∷ given) = ap (λ (ls : List Leg). leg s.account k b.0 ∷ ls) (portions_told k shares given)
 
 at_add : (c k : ℕ) (x y : ℤ) → at c x k +ℤ at c y k ≡ at c (x +ℤ y) k
 at_add c k x y = elim (eqb c k) as (λ t. cond t x (pos 0) +ℤ cond t y (pos 0) ≡ cond t (x +ℤ y) (pos 0)) [ true ↦ refl | false ↦ refl ]
@@ -110,7 +110,7 @@ split_sound o s h tie law d shares m n c a e all f =
       timely = tt;
       told =
           ap₂ (λ (k : ℕ) (ls : List Leg). leg d.account k (neg_ℤ d.amount.0) ∷ ls) e
-          (portions-told (number_of c) shares given ∙ ap (λ (k : ℕ). share_legs k shares given) e);
+          (portions_told (number_of c) shares given ∙ ap (λ (k : ℕ). share_legs k shares given) e);
       balanced = record {
         within = (a.high, shares_all (λ x. x < accounts) d.currency shares given (All-weaker (λ s. Named s.account) (λ s. s.account < accounts) (λ s p. p.high) shares all));
         columns = λ k. split_column d shares given k f.portion_each f.whole;

@@ -5,7 +5,7 @@ use Rattle.std.specs.List.{AllByRecursion}
 use Rattle.ledger.specs.declared.leg.Leg.{Leg}
 use Rattle.ledger.specs.Legs.{column_sum, rise, sum_to}
 use Rattle.ledger.specs.Limits.{accounts}
-use Rattle.ledger.proofs.Rises.{by_equal, sum_add, rise-sum}
+use Rattle.ledger.proofs.Rises.{by_equal, sum_add, rise_sum}
 
 pub distrib : (n : ℕ) (a b : ℤ) → pos n *ℤ (a +ℤ b) ≡ pos n *ℤ a +ℤ pos n *ℤ b
 distrib n a b = omega (arith, ints, ap (λ (x : ℕ). n * x) (sum_is_lem a b))
@@ -65,7 +65,7 @@ sum_change (suc g) n f f' h d =
 pub total_stands : (f f' : ℕ → ℤ) (ls : List Leg) (k : ℕ) → ((a : ℕ) → f' a ≡ f a +ℤ rise ls a k) → AllByRecursion (λ l. l.account < accounts) ls → column_sum ls k ≡ pos 0
     → sum_to accounts f' ≡ sum_to accounts f
 total_stands f f' ls k e h z =
-    let t : sum_to accounts (λ a. rise ls a k) ≡ column_sum ls k = rise-sum accounts ls k h in
+    let t : sum_to accounts (λ a. rise ls a k) ≡ column_sum ls k = rise_sum accounts ls k h in
     let s : sum_to accounts f' ≡ sum_to accounts (λ a. f a +ℤ rise ls a k) = sum_same accounts f' (λ a. f a +ℤ rise ls a k) (λ a _. e a) in
     let d : sum_to accounts (λ a. f a +ℤ rise ls a k) ≡ sum_to accounts f +ℤ sum_to accounts (λ a. rise ls a k) = sum_add accounts f (λ a. rise ls a k) in
     omega (arith, ints)

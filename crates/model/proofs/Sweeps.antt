@@ -13,7 +13,7 @@ use Rattle.ledger.specs.Columns.{fraction_number, whole_parts, currency_of, frac
 use Rattle.ledger.specs.Entries.{is_zero}
 use Rattle.ledger.specs.Legs.{leg, rise}
 use Rattle.ledger.specs.Limits.{accounts}
-use Rattle.ledger.proofs.Columns.{national_bounds, fraction_bounds, columns-numbered}
+use Rattle.ledger.proofs.Columns.{national_bounds, fraction_bounds, columns_numbered}
 use Rattle.ledger.proofs.Rises.{by_equal, rise_none}
 use Rattle.model.specs.Calls.{sweep}
 use Rattle.model.specs.Conservation.{Alike, Sweepable}
@@ -71,19 +71,19 @@ whole_cut c n d h =
     (λ l. rw (le-leb (n / d) c l) (record { few = l; there = omega arith; all = inr (omega arith) }))
     (cases_lt c (n / d))
 
-sweepable-at : (t q : ℤ) (d m : ℕ) → Whole most_swept (nat_abs t) d m → nat_abs q ≡ m → Alike t q → Sweepable t d q
-sweepable-at t q d m w e s =
+sweepable_at : (t q : ℤ) (d m : ℕ) → Whole most_swept (nat_abs t) d m → nat_abs q ≡ m → Alike t q → Sweepable t d q
+sweepable_at t q d m w e s =
     let x : Whole most_swept (nat_abs t) d (nat_abs q) = subst (Whole most_swept (nat_abs t) d) (sym e) w in
     record { alike = s; few = x.few; there = x.there; all = x.all }
 
 sweepable_is : (t : ℤ) (d : ℕ) → 0 < d → Sweepable t d (within most_swept (quot_z t (pos d)))
 sweepable_is (pos n) d h =
     let m : ℕ = capped most_swept (n / d) in
-    subst (Sweepable (pos n) d) (sym (within_above most_swept (n / d))) (sweepable-at (pos n) (pos m) d m (whole_cut most_swept n d h) refl refl)
+    subst (Sweepable (pos n) d) (sym (within_above most_swept (n / d))) (sweepable_at (pos n) (pos m) d m (whole_cut most_swept n d h) refl refl)
 sweepable_is (negsuc n) d h =
     let m : ℕ = capped most_swept (suc n / d) in
     subst (Sweepable (negsuc n) d) (sym (within_below most_swept (suc n / d)))
-    (sweepable-at (negsuc n) (neg_ℤ (pos m)) d m (whole_cut most_swept (suc n) d h) (size_below m) (ap (λ (x : ℕ). neg_ℤ (pos x)) (sym (size_below m))))
+    (sweepable_at (negsuc n) (neg_ℤ (pos m)) d m (whole_cut most_swept (suc n) d h) (size_below m) (ap (λ (x : ℕ). neg_ℤ (pos x)) (sym (size_below m))))
 
 whole_positive : (f : FractionColumn) → 0 < whole_parts f
 whole_positive (EuroOf i) = omega (arith, rate_bounds i)
@@ -100,7 +100,7 @@ swept_back : (f g : FractionColumn) (k : ℕ) (q : ℤ) → fraction_numbered k 
 swept_back f g k q e =
     by_equal k (fraction_number g)
     (λ h.
-    let same : Some f ≡ Some g = sym e ∙ ap fraction_numbered h ∙ columns-numbered.fraction g in
+    let same : Some f ≡ Some g = sym e ∙ ap fraction_numbered h ∙ columns_numbered.fraction g in
     let is : f ≡ g = cc in
     at_here k (fraction_number g) (q *ℤ pos (whole_parts f)) h
     ∙ *ℤ_comm q (pos (whole_parts f))
@@ -139,7 +139,7 @@ unfolding status origin
 sweep_sound o s h a k f kept n e =
     let q : ℤ = sweepable f (s.ledger.cell a k) in
     let lo : 2 ≤ a = n.low in
-    let is : fraction_number f ≡ k = columns-numbered.fraction_is k f e in
+    let is : fraction_number f ≡ k = columns_numbered.fraction_is k f e in
     let told : swept_legs a k q (fraction_numbered k) ≡ swept_legs a k q (Some f) = ap (swept_legs a k q) e in
     record {
       makes = record { statuses = λ n. refl; origins = λ n. refl };

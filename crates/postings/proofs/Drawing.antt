@@ -30,13 +30,13 @@ range_in : (l : Leg) → InRange l → in_range l ≡ true
 range_in l h = and_from _ _ (le-leb _ _ h.account) (and_from _ _ (le-leb _ _ h.column) (le-leb _ _ h.amount))
 
 -- legs in range, and not too many, are all drawn
-pub all-drawn : (xs ys : List Leg) → length xs + length ys ≤ most_legs → AllByRecursion InRange ys → with_legs (Some xs) ys ≡ Some (xs ++ ys)
+pub all_drawn : (xs ys : List Leg) → length xs + length ys ≤ most_legs → AllByRecursion InRange ys → with_legs (Some xs) ys ≡ Some (xs ++ ys)
 unfolding with_leg
-all-drawn xs [] h a = ap Some (sym (append-nil xs))
-all-drawn xs (y ∷ ys) h a =
+all_drawn xs [] h a = ap Some (sym (append-nil xs))
+all_drawn xs (y ∷ ys) h a =
     let n : length (xs ++ y ∷ []) ≡ length xs + 1 = length-append xs (y ∷ []) in
     ap (λ o. with_legs o ys) (cond-true _ _ _ (and_from _ _ (lt-ltb (length xs) most_legs (omega arith)) (range_in y a.0)))
-    ∙ all-drawn (xs ++ y ∷ []) ys (omega arith) a.1
+    ∙ all_drawn (xs ++ y ∷ []) ys (omega arith) a.1
     ∙ ap Some (append_assoc xs (y ∷ []) ys)
 
 -- all are drawn, or the draft is void
@@ -55,7 +55,7 @@ drawn_or_void xs (y ∷ ys) =
 pub drawn_up : (ls : List Leg) → entry_in (with_legs (Some []) ls) ≡ entry_legs ls
 drawn_up ls =
     ⊎_elim
-    (λ t. let e = entry_legs_lem ls t in ap entry_in (all-drawn [] ls (omega (arith, e.few)) e.each))
+    (λ t. let e = entry_legs_lem ls t in ap entry_in (all_drawn [] ls (omega (arith, e.few)) e.each))
     (λ f. ⊎_elim (λ v. ap entry_in v ∙ sym (cond-false _ _ _ f)) (λ d. ap entry_in d) (drawn_or_void [] ls))
     (cases_Bool (is_entry ls))
 
@@ -65,8 +65,8 @@ range_amount l e =
     leb-true _ _ (and_parts (leb l.column most_column) (leb (nat_abs l.amount) most_amount) p.1).1
 
 -- a leg that is taken finds room, and its amount is in range
-pub taken-fits : (valid : Bool) (n : ℕ) (l : Leg) → (valid && (ltb n most_legs && in_range l)) ≡ true → (n < most_legs) × (nat_abs l.amount ≤ most_amount)
-taken-fits valid n l e =
+pub taken_fits : (valid : Bool) (n : ℕ) (l : Leg) → (valid && (ltb n most_legs && in_range l)) ≡ true → (n < most_legs) × (nat_abs l.amount ≤ most_amount)
+taken_fits valid n l e =
     let p = and_parts (ltb n most_legs) (in_range l) (and_parts valid (ltb n most_legs && in_range l) e).1 in
     (ltb-true n most_legs p.0, range_amount l p.1)
 

@@ -20,8 +20,8 @@ use Rattle.model.specs.Docket.{Residue, euro_fraction, national_fraction, residu
 use Rattle.model.specs.Postings.{transfer, transfers}
 use Rattle.postings.specs.Laws.{SmallResidues}
 
-pub named-within : (account : ℕ) → named account ≡ true → account ≤ most_account
-named-within account h = leb-true account most_account (and_parts (leb first_named account) (leb account last_named) h).1
+pub named_within : (account : ℕ) → named account ≡ true → account ≤ most_account
+named_within account h = leb-true account most_account (and_parts (leb first_named account) (leb account last_named) h).1
 
 -- legs in range that sum to zero in every column
 pub record Paired (ls : List Leg) : Type 0 where

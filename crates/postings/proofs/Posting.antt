@@ -18,7 +18,7 @@ use Rattle.ledger.specs.declared.leg.Leg.{Leg}
 use Rattle.ledger.specs.Columns.{column_number}
 use Rattle.ledger.specs.Entries.{most_legs, InRange, EntryLegs, is_zero}
 use Rattle.ledger.specs.Legs.{leg, column_sum}
-use Rattle.ledger.proofs.Columns.{columns-numbered, fraction_bounds}
+use Rattle.ledger.proofs.Columns.{columns_numbered, fraction_bounds}
 use Rattle.ledger.proofs.Rises.{column_off}
 use Rattle.model.specs.declared.request.Posting.{Posting}
 use Rattle.model.specs.Results.{and_then, unless}
@@ -45,13 +45,13 @@ module _ (ls : List Leg) where
   abbrev open_in : Currency → Bool
   open_in c = not (is_zero (column_sum ls (number_of c)))
 
-  pub unbalanced-start : lowest_unbalanced ls ≡ unbalanced_from ls 0
+  pub unbalanced_start : lowest_unbalanced ls ≡ unbalanced_from ls 0
   unfolding lowest_unbalanced unbalanced_from
-  unbalanced-start = refl
+  unbalanced_start = refl
 
-  pub unbalanced-end : unbalanced_from ls 12 ≡ None
+  pub unbalanced_end : unbalanced_from ls 12 ≡ None
   unfolding unbalanced_from
-  unbalanced-end = refl
+  unbalanced_end = refl
 
   pub unbalanced_here : (i : ℕ) (c : Currency) → i < 12 → c ≡ get_or currencies i Euro → (column_sum ls (number_of c) ≡ pos 0 → ⊥) → unbalanced_from ls i ≡ Some c
   unfolding unbalanced_from
@@ -60,9 +60,9 @@ module _ (ls : List Leg) where
       ∙ cond-true _ _ _ (ap open_in (sym e) ∙ ap not (zero_not (column_sum ls (number_of c)) n))
       ∙ ap Some (sym e)
 
-  pub unbalanced-more : (i : ℕ) (c : Currency) → i < 12 → c ≡ get_or currencies i Euro → column_sum ls (number_of c) ≡ pos 0 → unbalanced_from ls i ≡ unbalanced_from ls (i + 1)
+  pub unbalanced_more : (i : ℕ) (c : Currency) → i < 12 → c ≡ get_or currencies i Euro → column_sum ls (number_of c) ≡ pos 0 → unbalanced_from ls i ≡ unbalanced_from ls (i + 1)
   unfolding unbalanced_from
-  unbalanced-more i c h e z =
+  unbalanced_more i c h e z =
       first_at open_in currencies i Euro h
       ∙ cond-false _ _ _ (ap open_in (sym e) ∙ ap (λ x. not (is_zero x)) z)
 
@@ -129,8 +129,8 @@ record MoneyLeg (l : Leg) : Type 0 where
 currency_bound : (c : Currency) → number_of c ≤ 11
 currency_bound c = grind arith
 
-posted_leg-range : (place : ℕ) (p : Posting) (l : Leg) → posted_leg place p ≡ Ok l → MoneyLeg l
-posted_leg-range place p l e =
+posted_leg_range : (place : ℕ) (p : Posting) (l : Leg) → posted_leg place p ≡ Ok l → MoneyLeg l
+posted_leg_range place p l e =
     let a = then_ok (account_at p.account place) _ l e in
     let b = then_ok (currency_at p.currency place) _ l a.2 in
     let d = then_ok (unless (postable p.amount.0) 5 place) _ l b.2 in
@@ -149,13 +149,13 @@ posted_leg-range place p l e =
 legs_same : {x y : List Leg} → ◌≡◌ {A = Result (List Leg) Refusal} (Ok x) (Ok y) → x ≡ y
 legs_same h = cc
 
-posted_legs-range : (place : ℕ) (ps : List Posting) (ls : List Leg) → posted_legs place ps ≡ Ok ls → AllByRecursion MoneyLeg ls × (length ls ≡ length ps)
-posted_legs-range place [] ls e = subst (λ xs. AllByRecursion MoneyLeg xs × (length xs ≡ 0)) (legs_same e) (tt, refl)
-posted_legs-range place (p ∷ ps) ls e =
+posted_legs_range : (place : ℕ) (ps : List Posting) (ls : List Leg) → posted_legs place ps ≡ Ok ls → AllByRecursion MoneyLeg ls × (length ls ≡ length ps)
+posted_legs_range place [] ls e = subst (λ xs. AllByRecursion MoneyLeg xs × (length xs ≡ 0)) (legs_same e) (tt, refl)
+posted_legs_range place (p ∷ ps) ls e =
     let a = then_ok (posted_leg place p) _ ls e in
     let b = then_ok (posted_legs (place + 1) ps) _ ls a.2 in
-    let more = posted_legs-range (place + 1) ps b.0 b.1 in
-    subst (λ xs. AllByRecursion MoneyLeg xs × (length xs ≡ suc (length ps))) (legs_same b.2) ((posted_leg-range place p a.0 a.1, more.0), ap suc more.1)
+    let more = posted_legs_range (place + 1) ps b.0 b.1 in
+    subst (λ xs. AllByRecursion MoneyLeg xs × (length xs ≡ suc (length ps))) (legs_same b.2) ((posted_leg_range place p a.0 a.1, more.0), ap suc more.1)
 
 -- no currency is found that does not balance
 none_first : (p : Currency → Bool) (xs : List Currency) → first_that p xs ≡ None → AllByRecursion (λ c. p c ≡ false) xs
@@ -191,7 +191,7 @@ money_balanced ls e c = zero_is _ (each_currency (λ k. not (is_zero (column_sum
 column_balanced : (ls : List Leg) → AllByRecursion MoneyLeg ls → lowest_unbalanced ls ≡ None → (k : ℕ) → column_sum ls k ≡ pos 0
 column_balanced ls h e k =
     ⊎_elim
-    (λ low. in_money (columns-numbered.every k (omega (arith, low.1))) low.1)
+    (λ low. in_money (columns_numbered.every k (omega (arith, low.1))) low.1)
     (λ high. column_off ls k (All-weaker MoneyLeg (λ l. l.column ≢ k) (λ l m q. omega (arith, m.money, high.1)) ls h))
     (leb_tells k 11)
   where
@@ -202,7 +202,7 @@ column_balanced ls h e k =
 -- the legs of an accepted post make an entry
 pub read_entry : (ps : List Posting) (ls : List Leg) → length ps ≤ most_legs → posted_legs 1 ps ≡ Ok ls → lowest_unbalanced ls ≡ None → EntryLegs ls
 read_entry ps ls k e u =
-    let r = posted_legs-range 1 ps ls e in
+    let r = posted_legs_range 1 ps ls e in
     record {
       few = omega (arith, r.1);
       each = All-weaker MoneyLeg InRange (λ l m. m.range) ls r.0;

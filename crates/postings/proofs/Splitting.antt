@@ -19,24 +19,24 @@ use Rattle.apportion.specs.Ties.{Tie, Lawful}
 use Rattle.apportion.proofs.Bounds.{weighs}
 use Rattle.apportion.proofs.Checks.{sum_more}
 use Rattle.apportion.proofs.Counts.{sum_part}
-use Rattle.apportion.proofs.Fairness.{always_fair, length-portions, portion-listed}
+use Rattle.apportion.proofs.Fairness.{always_fair, length-portions, portion_listed}
 use Rattle.apportion.proofs.Passing.{divisible}
-use Rattle.apportion.proofs.Sums.{int_sum-map, int_sum-listed}
+use Rattle.apportion.proofs.Sums.{int_sum-map, int_sum_listed}
 use Rattle.ledger.specs.declared.column.Column.TheVariants.{Money}
 use Rattle.ledger.specs.declared.leg.Leg.{Leg}
 use Rattle.ledger.specs.Entries.{InRange, EntryLegs, most_column}
 use Rattle.ledger.specs.Legs.{leg, in_column, column_sum}
-use Rattle.ledger.proofs.Columns.{columns-numbered}
+use Rattle.ledger.proofs.Columns.{columns_numbered}
 use Rattle.ledger.proofs.Rises.{by_equal, in_column_here, in_column_off, column_off}
 use Rattle.model.specs.declared.request.Division.{Division}
 use Rattle.model.specs.Postings.{portion_legs, split_legs}
-use Rattle.postings.proofs.Pairing.{abs_neg, named-within}
+use Rattle.postings.proofs.Pairing.{abs_neg, named_within}
 
 module _ (k : ℕ) (shares : List Share) (given : List Minor) where
   -- the leg of the share at place i, then those of the shares after it
-  pub portions-more : (i : ℕ) → i < length shares → i < length given
+  pub portions_more : (i : ℕ) → i < length shares → i < length given
       → portion_legs k (drop i shares) (drop i given) ≡ leg (get_or shares i no_share).account k (get_or given i (minors 0)).0 ∷ portion_legs k (drop (i + 1) shares) (drop (i + 1) given)
-  portions-more i l m = λ j. portion_legs k (drop_more shares i no_share l j) (drop_more given i (minors 0) m j)
+  portions_more i l m = λ j. portion_legs k (drop_more shares i no_share l j) (drop_more given i (minors 0) m j)
 
   -- no share is left
   pub shares_end : (i : ℕ) → length shares ≤ i → portion_legs k (drop i shares) (drop i given) ≡ []
@@ -47,18 +47,18 @@ module _ (k : ℕ) (shares : List Share) (given : List Minor) where
   no_portion (s ∷ ss) = refl
 
   -- no portion is left
-  pub portions-end : (i j : ℕ) → length given ≤ i → portion_legs k (drop j shares) (drop i given) ≡ []
-  portions-end i j h = at_drop_all (portion_legs k (drop j shares)) given i h ∙ no_portion (drop j shares)
+  pub portions_end : (i j : ℕ) → length given ≤ i → portion_legs k (drop j shares) (drop i given) ≡ []
+  portions_end i j h = at_drop_all (portion_legs k (drop j shares)) given i h ∙ no_portion (drop j shares)
 
 -- ---- a split makes an entry
 
-portions-range : (k : ℕ) → k ≤ most_column → (shares : List Share) (given : List Minor) → AllByRecursion (λ s. named s.account ≡ true) shares → AllByRecursion (λ m. nat_abs m.0 ≤ most_amount) given
+portions_range : (k : ℕ) → k ≤ most_column → (shares : List Share) (given : List Minor) → AllByRecursion (λ s. named s.account ≡ true) shares → AllByRecursion (λ m. nat_abs m.0 ≤ most_amount) given
     → AllByRecursion InRange (portion_legs k shares given)
-portions-range k h [] given a b = tt
-portions-range k h (s ∷ shares) [] a b = tt
-portions-range k h (s ∷ shares) (m ∷ given) a b = (
-  record { account = named-within s.account a.0; column = h; amount = b.0 },
-  portions-range k h shares given a.1 b.1,
+portions_range k h [] given a b = tt
+portions_range k h (s ∷ shares) [] a b = tt
+portions_range k h (s ∷ shares) (m ∷ given) a b = (
+  record { account = named_within s.account a.0; column = h; amount = b.0 },
+  portions_range k h shares given a.1 b.1,
 )
 
 portions_few : (k : ℕ) (shares : List Share) (given : List Minor) → length (portion_legs k shares given) ≤ length shares
@@ -67,17 +67,17 @@ portions_few k (s ∷ shares) [] = omega arith
 portions_few k (s ∷ shares) (m ∷ given) = omega (arith, portions_few k shares given)
 
 -- in their own column the legs sum to what is given, and to zero in any other
-portions-sum : (k : ℕ) (shares : List Share) (given : List Minor) (before : ℤ) → length given ≡ length shares
+portions_sum : (k : ℕ) (shares : List Share) (given : List Minor) (before : ℤ) → length given ≡ length shares
     → before +ℤ column_sum (portion_legs k shares given) k ≡ fold ◌+ℤ◌ before (map (λ (m : Minor). m.0) given)
 unfolding column_sum
-portions-sum k [] [] before e = omega (arith, ints)
-portions-sum k [] (m ∷ given) before e = absurd (omega arith)
-portions-sum k (s ∷ shares) [] before e = absurd (omega arith)
-portions-sum k (s ∷ shares) (m ∷ given) before e =
+portions_sum k [] [] before e = omega (arith, ints)
+portions_sum k [] (m ∷ given) before e = absurd (omega arith)
+portions_sum k (s ∷ shares) [] before e = absurd (omega arith)
+portions_sum k (s ∷ shares) (m ∷ given) before e =
     let here : in_column (leg s.account k m.0) k ≡ m.0 = in_column_here (leg s.account k m.0) k refl in
     let rest = column_sum (portion_legs k shares given) k in
     let group : before +ℤ (in_column (leg s.account k m.0) k +ℤ rest) ≡ (before +ℤ m.0) +ℤ rest = omega (arith, ints) in
-    group ∙ portions-sum k shares given (before +ℤ m.0) (omega arith)
+    group ∙ portions_sum k shares given (before +ℤ m.0) (omega arith)
 
 portions_off : (k j : ℕ) (shares : List Share) (given : List Minor) → k ≢ j → AllByRecursion (λ l. l.column ≢ j) (portion_legs k shares given)
 portions_off k j [] given d = tt
@@ -85,21 +85,21 @@ portions_off k j (s ∷ shares) [] d = tt
 portions_off k j (s ∷ shares) (m ∷ given) d = (d, portions_off k j shares given d)
 
 -- no portion is more than the whole
-portion-small : (tie : Tie) → Lawful tie → (amount : ℕ) (shares : List Share) → 0 < all_weights shares → (i : ℕ) → i < length shares → portion tie amount shares i ≤ amount
+portion_small : (tie : Tie) → Lawful tie → (amount : ℕ) (shares : List Share) → 0 < all_weights shares → (i : ℕ) → i < length shares → portion tie amount shares i ≤ amount
 unfolding portions
-portion-small tie law amount shares h i l =
+portion_small tie law amount shares h i l =
     let f = portion tie amount shares in
     let n = length shares in
-    let all : int_sum (map (λ (m : Minor). m.0) (portions tie amount shares)) ≡ pos (sum_below f n) = int_sum-map (λ (m : Minor). m.0) (λ k. minors (f k)) (range_with_len 0 n) ∙ int_sum-listed f n in
+    let all : int_sum (map (λ (m : Minor). m.0) (portions tie amount shares)) ≡ pos (sum_below f n) = int_sum-map (λ (m : Minor). m.0) (λ k. minors (f k)) (range_with_len 0 n) ∙ int_sum_listed f n in
     let whole : pos (sum_below f n) ≡ pos amount = sym all ∙ (always_fair tie law amount shares h).whole in
     omega (arith, ints, sum_more f i, sum_part f (i + 1) n (omega arith))
 
-portions-small : (tie : Tie) → Lawful tie → (amount : ℕ) (shares : List Share) → 0 < all_weights shares → amount ≤ most_amount
+portions_small : (tie : Tie) → Lawful tie → (amount : ℕ) (shares : List Share) → 0 < all_weights shares → amount ≤ most_amount
     → AllByRecursion (λ (m : Minor). nat_abs m.0 ≤ most_amount) (portions tie amount shares)
-portions-small tie law amount shares h most =
+portions_small tie law amount shares h most =
     All-from_get_or (λ (m : Minor). nat_abs m.0 ≤ most_amount) (portions tie amount shares) (minors 0) (λ i l.
     let n : i < length shares = subst (λ k. i < k) (length-portions tie amount shares) l in
-    rw (portion-listed tie amount shares i n) (omega (arith, portion-small tie law amount shares h i n)))
+    rw (portion_listed tie amount shares i n) (omega (arith, portion_small tie law amount shares h i n)))
 
 accepted : (amount : ℤ) (shares : List Share) (m n : ℕ) (r : Result ℕ Refusal) → checked amount shares ≡ r → verdict amount shares m n ≡ Ok tt → (w : ℕ) × (checked amount shares ≡ Ok w)
 accepted amount shares m n (Ok w) e h = (w, e)
@@ -118,18 +118,18 @@ split_entry tie law d c shares m n account h =
     let e : z ≡ pos (nat_abs z) = ok.0 in
     let heavy = weighs (nat_abs z) shares w.0 ok.1 in
     let most = ok.1.amount_most in
-    let column : k ≤ most_column = columns-numbered.within (Money c) in
+    let column : k ≤ most_column = columns_numbered.within (Money c) in
     let first : Leg = leg d.account k (neg_ℤ z) in
     record {
       few = omega (arith, portions_few k shares given, ok.1.shares_most);
       each = (
-        record { account = named-within d.account account; column = column; amount = omega (arith, abs_neg z, most) },
-        portions-range k column shares given (All-from_get_or (λ s. named s.account ≡ true) shares no_share ok.1.account) (portions-small tie law (nat_abs z) shares heavy most),
+        record { account = named_within d.account account; column = column; amount = omega (arith, abs_neg z, most) },
+        portions_range k column shares given (All-from_get_or (λ s. named s.account ≡ true) shares no_share ok.1.account) (portions_small tie law (nat_abs z) shares heavy most),
       );
       balanced = λ j. by_equal k j
           (λ s. subst (λ x. in_column first x +ℤ column_sum (portion_legs k shares given) x ≡ pos 0) s
           (let u : in_column first k ≡ neg_ℤ z = in_column_here first k refl in
-          let v = portions-sum k shares given (pos 0) (length-portions tie (nat_abs z) shares) ∙ (always_fair tie law (nat_abs z) shares heavy).whole in
+          let v = portions_sum k shares given (pos 0) (length-portions tie (nat_abs z) shares) ∙ (always_fair tie law (nat_abs z) shares heavy).whole in
           omega (arith, ints, u, v)))
           (λ o.
           let u : in_column first j ≡ pos 0 = in_column_off first j o in

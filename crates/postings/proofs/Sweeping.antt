@@ -12,9 +12,9 @@ use Rattle.ledger.specs.Columns.{whole_parts}
 use Rattle.model.specs.Postings.{most_swept, within, sweepable}
 use Rattle.postings.specs.Sweeps.{most_parts, Swept}
 
-pub parts-small : (f : FractionColumn) → (0 < whole_parts f) × (whole_parts f ≤ most_parts)
-parts-small (EuroOf i) = let b = rate_bounds i in (omega (arith, b), omega (arith, b))
-parts-small (NationalOf i) = let b = parts_bounds i in (omega (arith, b), omega (arith, b))
+pub parts_small : (f : FractionColumn) → (0 < whole_parts f) × (whole_parts f ≤ most_parts)
+parts_small (EuroOf i) = let b = rate_bounds i in (omega (arith, b), omega (arith, b))
+parts_small (NationalOf i) = let b = parts_bounds i in (omega (arith, b), omega (arith, b))
 
 -- at most the limit
 abbrev at_most : ℕ → ℕ
@@ -60,11 +60,11 @@ none_held n d z =
 
 pub swept : (f : FractionColumn) (cell : ℤ) → Swept f cell (sweepable f cell)
 swept f (pos n) =
-    let w = whole_units n (whole_parts f) (parts-small f).0 in
+    let w = whole_units n (whole_parts f) (parts_small f).0 in
     subst (Swept f (pos n)) (sym (within_pos (n / whole_parts f)))
     (record { most = w.most; covered = w.covered; every = w.every; held = λ _. omega (arith, ints); owed = λ z. none_held n (whole_parts f) z })
 swept f (negsuc n) =
-    let w = whole_units (suc n) (whole_parts f) (parts-small f).0 in
+    let w = whole_units (suc n) (whole_parts f) (parts_small f).0 in
     let k = at_most (suc n / whole_parts f) in
     subst (Swept f (negsuc n)) (sym (within_neg (suc n / whole_parts f)))
     (record {
@@ -104,9 +104,9 @@ pub abs_product : (z : ℤ) (d : ℕ) → nat_abs (z *ℤ pos d) ≡ nat_abs z *
 abs_product (pos a) d = refl
 abs_product (negsuc a) d = abs_neg (suc a * d)
 
-abs-fits : (z : ℤ) → nat_abs z < 2 ^ 127 → SFits w128 z
-abs-fits (pos n) h = record { sfits = h }
-abs-fits (negsuc n) h = record { sfits = omega arith }
+abs_fits : (z : ℤ) → nat_abs z < 2 ^ 127 → SFits w128 z
+abs_fits (pos n) h = record { sfits = h }
+abs_fits (negsuc n) h = record { sfits = omega arith }
 
 pub product_bound : (z : ℤ) (p : ℕ) → SFits w64 z → p ≤ most_parts → nat_abs (z *ℤ pos p) ≤ 2 ^ 63 * most_parts
 product_bound z p f h =
@@ -114,4 +114,4 @@ product_bound z p f h =
     omega (arith, abs_product z p, mul-le-mul a h)
 
 pub product_fits : (z : ℤ) (p : ℕ) → SFits w64 z → p ≤ most_parts → SFits w128 (z *ℤ pos p)
-product_fits z p f h = abs-fits (z *ℤ pos p) (omega (arith, product_bound z p f h))
+product_fits z p f h = abs_fits (z *ℤ pos p) (omega (arith, product_bound z p f h))

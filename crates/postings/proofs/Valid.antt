@@ -19,7 +19,7 @@ use Rattle.ledger.specs.declared.column.FractionColumn.{FractionColumn}
 use Rattle.ledger.specs.declared.leg.Leg.{Leg}
 use Rattle.ledger.specs.Columns.{currency_of, fraction_number, whole_parts}
 use Rattle.ledger.specs.Entries.{EntryLegs, is_entry, most_account, most_column, most_legs}
-use Rattle.ledger.proofs.Columns.{columns-numbered, fraction_bounds}
+use Rattle.ledger.proofs.Columns.{columns_numbered, fraction_bounds}
 use Rattle.ledger.proofs.Entries.{legs_entry}
 use Rattle.apportion.specs.declared.share.Share.{Share}
 use Rattle.apportion.specs.Accounts.{named}
@@ -41,12 +41,12 @@ use Rattle.postings.specs.Posts.{lowest_unbalanced, posted}
 use Rattle.postings.proofs.Pairing.{paired_entry, paired_append, two_paired, abs_neg, transfer_paired, residues_paired, residues_few}
 use Rattle.postings.proofs.Posting.{posted_entry}
 use Rattle.postings.proofs.Splitting.{split_entry}
-use Rattle.postings.proofs.Sweeping.{parts-small, abs_product}
-pub use Rattle.postings.proofs.Pairing.{named-within}
+use Rattle.postings.proofs.Sweeping.{parts_small, abs_product}
+pub use Rattle.postings.proofs.Pairing.{named_within}
 pub use Rattle.postings.proofs.Sweeping.{swept}
 
 money_column : (c : Currency) → number_of c ≤ most_column
-money_column c = columns-numbered.within (Money c)
+money_column c = columns_numbered.within (Money c)
 
 -- ---- conversions
 
@@ -61,10 +61,10 @@ amount_small : (amount : ℤ) → convertible amount ≡ true → nat_abs amount
 amount_small (pos n) h = grind (arith, nat_tests)
 amount_small (negsuc n) h = absurd (false≢true h)
 
-booked-small : (route : Route) (n : ℕ) → le_z (booked (exchanged route n)).0 (pos most_amount) ≡ true → nat_abs (booked (exchanged route n)).0 ≤ most_amount
-booked-small (IntoEuro i) n h = leb-true _ _ h
-booked-small (FromEuro j) n h = leb-true _ _ h
-booked-small (Between i j) n h = leb-true _ _ h
+booked_small : (route : Route) (n : ℕ) → le_z (booked (exchanged route n)).0 (pos most_amount) ≡ true → nat_abs (booked (exchanged route n)).0 ≤ most_amount
+booked_small (IntoEuro i) n h = leb-true _ _ h
+booked_small (FromEuro j) n h = leb-true _ _ h
+booked_small (Between i j) n h = leb-true _ _ h
 
 -- What is known of a conversion that is carried out.
 record Carried (route : Route) (amount : ℤ) (c : Conversion) : Type 0 where
@@ -80,29 +80,29 @@ carried route amount c h =
     record {
       is = sym e;
       amount_most = amount_small amount a.0;
-      booked_most = subst (λ v. nat_abs (booked v).0 ≤ most_amount) e (booked-small route (nat_abs amount) b.0);
+      booked_most = subst (λ v. nat_abs (booked v).0 ≤ most_amount) e (booked_small route (nat_abs amount) b.0);
     }
 
 residue_small : (x d : ℕ) → 0 < d → d ≤ 10_000_000 → nat_abs (residue_of x d) ≤ most_amount
 residue_small x d h k = let a = accounted x d h in omega (arith, ints, a.low, a.high)
 
-exchanged-small : (route : Route) (n number : ℕ) (from to : Currency) → SmallResidues (record_of number from to (exchanged route n))
-exchanged-small (IntoEuro i) n number from to = record {
+exchanged_small : (route : Route) (n number : ℕ) (from to : Currency) → SmallResidues (record_of number from to (exchanged route n))
+exchanged_small (IntoEuro i) n number from to = record {
   euro = residue_small (exact_from i n) (10 * rate i) (omega (arith, rate_bounds i)) (omega (arith, rate_bounds i));
   national = omega arith;
 }
-exchanged-small (FromEuro j) n number from to = record {
+exchanged_small (FromEuro j) n number from to = record {
   euro = omega arith;
   national = residue_small (exact_into j (mills_of_cents n)) (parts j) (omega (arith, parts_bounds j)) (omega (arith, parts_bounds j));
 }
-exchanged-small (Between i j) n number from to = record {
+exchanged_small (Between i j) n number from to = record {
   euro = residue_small (exact_from i n) (rate i) (omega (arith, rate_bounds i)) (omega (arith, rate_bounds i));
   national = residue_small (exact_into j (mills_from i n)) (parts j) (omega (arith, parts_bounds j)) (omega (arith, parts_bounds j));
 }
 
 pub record_small : (route : Route) (amount : ℤ) (c : Conversion) (number : ℕ) (from to : Currency) → converted route amount ≡ Ok c → SmallResidues (record_of number from to c)
 record_small route amount c number from to h =
-    subst (λ v. SmallResidues (record_of number from to v)) (sym (carried route amount c h).is) (exchanged-small route (nat_abs amount) number from to)
+    subst (λ v. SmallResidues (record_of number from to v)) (sym (carried route amount c h).is) (exchanged_small route (nat_abs amount) number from to)
 
 pub conversion_entry : (x : Exchange) (from to : Currency) (route : Route) (c : Conversion) (number : ℕ)
     → named x.from ≡ true → named x.to ≡ true → converted route x.amount.0 ≡ Ok c
@@ -111,13 +111,13 @@ conversion_entry x from to route c number hf ht h =
     let r = record_of number from to c in
     let known = carried route x.amount.0 c h in
     let zs = transfers exchange_account docket_account (residues_of r) in
-    let in-legs = transfer x.from exchange_account (number_of from) x.amount.0 in
-    let out-legs = transfer exchange_account x.to (number_of to) (booked c).0 in
-    paired_entry (in-legs ++ (out-legs ++ zs))
-    (paired_append in-legs (out-legs ++ zs)
-    (transfer_paired x.from exchange_account (number_of from) x.amount.0 (named-within x.from hf) (omega arith) (money_column from) known.amount_most)
-    (paired_append out-legs zs
-    (transfer_paired exchange_account x.to (number_of to) (booked c).0 (omega arith) (named-within x.to ht) (money_column to) known.booked_most)
+    let in_legs = transfer x.from exchange_account (number_of from) x.amount.0 in
+    let out_legs = transfer exchange_account x.to (number_of to) (booked c).0 in
+    paired_entry (in_legs ++ (out_legs ++ zs))
+    (paired_append in_legs (out_legs ++ zs)
+    (transfer_paired x.from exchange_account (number_of from) x.amount.0 (named_within x.from hf) (omega arith) (money_column from) known.amount_most)
+    (paired_append out_legs zs
+    (transfer_paired exchange_account x.to (number_of to) (booked c).0 (omega arith) (named_within x.to ht) (money_column to) known.booked_most)
     (residues_paired exchange_account docket_account r (omega arith) (omega arith) (record_small route x.amount.0 c number from to h))))
     (omega (arith, residues_few exchange_account docket_account r))
 
@@ -133,7 +133,7 @@ pub sweep_entry : (account : ℕ) (f : FractionColumn) (q : ℤ) → account ≤
 sweep_entry account f q h m =
     let k = number_of (currency_of f) in
     let z = q *ℤ pos (whole_parts f) in
-    let small : nat_abs z ≤ most_amount = omega (arith, abs_product q (whole_parts f), mul-le-mul m (parts-small f).1) in
+    let small : nat_abs z ≤ most_amount = omega (arith, abs_product q (whole_parts f), mul-le-mul m (parts_small f).1) in
     paired_entry (sweep_legs account f q)
     (paired_append _ _
     (two_paired account exchange_account k q (neg_ℤ q) h (omega arith) (money_column (currency_of f)) (omega arith) (omega (arith, abs_neg q)) (omega (arith, ints)))

@@ -66,18 +66,18 @@ module _ (line : List ℕ) (was : List Word) (column : ℕ) (rest : List ℕ) (c
 
   -- the same, as `split_words` finds the word: g spaces, then n bytes
   module _ (g n : ℕ) (from after : List ℕ) (skipped : g ≡ leading 32 rest) (starts : from ≡ drop g rest) (runs_on : n ≡ before 32 from) (left : after ≡ drop n from) (some : 0 < n) (words' : List Word) where
-    step-long : g + n + length after ≡ length rest
-    step-long = words_left column rest g n from skipped starts runs_on after left
+    step_long : g + n + length after ≡ length rest
+    step_long = words_left column rest g n from skipped starts runs_on after left
 
-    pub step-more : (w : Word) → view w ≡ record { column = column + g; text = take (n - 0) from; kind = kind_of (take (n - 0) from) } → count < length words → words' ≡ set words count w → Filled line was (column + g + n) after (count + 1) words'
-    step-more w v room is =
+    pub step_more : (w : Word) → view w ≡ record { column = column + g; text = take (n - 0) from; kind = kind_of (take (n - 0) from) } → count < length words → words' ≡ set words count w → Filled line was (column + g + n) after (count + 1) words'
+    step_more w v room is =
         let z : n - 0 ≡ n = omega arith in
-        let long = step-long in
+        let long = step_long in
         subst (Filled line was (column + g + n) after (count + 1)) (sym is)
         (fill_more _ _ after w (words_next column rest g n from skipped starts runs_on after left some) (v ∙ ap (λ k. read_piece (record { column = column + g; text = take k from })) z) (omega arith) (omega arith) room)
 
     pub step_past : length words ≤ count → words' ≡ words → Filled line was (column + g + n) after (count + 1) words'
     step_past full is =
-        let long = step-long in
+        let long = step_long in
         subst (Filled line was (column + g + n) after (count + 1)) (sym is)
         (fill_past _ _ after (words_next column rest g n from skipped starts runs_on after left some) (omega arith) (omega arith) full)

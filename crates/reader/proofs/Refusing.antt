@@ -94,9 +94,9 @@ module _ (w : Piece) (ws : List Piece) where
   unfolding currency_at
   at_currency = first_rightly w ws _ (currency_rightly w (kind_of w.text))
 
-  at-share : Rightly (w ∷ ws) (share_at (read_piece w))
+  at_share : Rightly (w ∷ ws) (share_at (read_piece w))
   unfolding share_at
-  at-share = first_rightly w ws _ (share_rightly w (kind_of w.text))
+  at_share = first_rightly w ws _ (share_rightly w (kind_of w.text))
 
 -- the words of a pattern, one after another
 
@@ -123,7 +123,7 @@ postings_rightly (a ∷ c ∷ z ∷ ws) =
 shares_rightly : (ws : List Piece) → Rightly ws (shares_of (map read_piece ws))
 shares_rightly [] = tt
 shares_rightly (w ∷ ws) =
-    next_rightly w ws (share_at (read_piece w)) _ (at-share w ws) (λ s. put_rightly ws s (shares_of (map read_piece ws)) (shares_rightly ws))
+    next_rightly w ws (share_at (read_piece w)) _ (at_share w ws) (λ s. put_rightly ws s (shares_of (map read_piece ws)) (shares_rightly ws))
 
 both_rightly : (a b : Piece) (f : ℕ → ℕ → Asked) → Rightly (a ∷ b ∷ []) (and_then (number_at (read_piece a)) (λ m. and_then (number_at (read_piece b)) (λ n. Ok (f m n))))
 both_rightly a b f =

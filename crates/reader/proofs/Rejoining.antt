@@ -33,9 +33,9 @@ rejoined-onto b [] = refl
 rejoined-onto b (l ∷ []) = refl
 rejoined-onto b (l ∷ m ∷ ls) = refl
 
-rejoined-after : (ls : List (List ℕ)) → 0 < length ls → rejoined ([] ∷ ls) ≡ newline ∷ rejoined ls
-rejoined-after [] h = absurd (omega arith)
-rejoined-after (l ∷ ls) h = refl
+rejoined_after : (ls : List (List ℕ)) → 0 < length ls → rejoined ([] ∷ ls) ≡ newline ∷ rejoined ls
+rejoined_after [] h = absurd (omega arith)
+rejoined_after (l ∷ ls) h = refl
 
 rejoins : (bs : List ℕ) → rejoined (lines_of bs) ++ last_newline bs ≡ bs
 rejoins [] = refl
@@ -45,7 +45,7 @@ rejoins (b ∷ []) =
 rejoins (b ∷ c ∷ bs) =
     cond_both (eqb b newline) ([] ∷ lines_of (c ∷ bs)) (onto b (lines_of (c ∷ bs))) (λ ls. rejoined ls ++ last_newline (c ∷ bs) ≡ b ∷ c ∷ bs)
     (λ e.
-    ap (λ l. l ++ last_newline (c ∷ bs)) (rejoined-after (lines_of (c ∷ bs)) (lines_some c bs))
+    ap (λ l. l ++ last_newline (c ∷ bs)) (rejoined_after (lines_of (c ∷ bs)) (lines_some c bs))
     ∙ (λ i. sym (eqb-true b newline e) i ∷ rejoins (c ∷ bs) i))
     (λ e. ap (λ l. l ++ last_newline (c ∷ bs)) (rejoined-onto b (lines_of (c ∷ bs))) ∙ ap (λ l. b ∷ l) (rejoins (c ∷ bs)))
 

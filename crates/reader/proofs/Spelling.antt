@@ -39,8 +39,8 @@ plain_first [] h e = grind arith
 plain_first (b ∷ []) h e = refl
 plain_first (b ∷ c ∷ bs) h e = absurd (omega (arith, leb-true 49 b h))
 
-written-plain : (n : ℕ) → n < 2 ^ 64 → plain (decimal n) ≡ true
-written-plain n h =
+written_plain : (n : ℕ) → n < 2 ^ 64 → plain (decimal n) ≡ true
+written_plain n h =
     ⊎_elim
     (λ small. ap plain (decimal_digit n small))
     (λ large. plain_from (decimal n) (decimal_nonempty n h) (λ _. first_decimal n (omega arith) h))
@@ -50,7 +50,7 @@ forward : (n : ℕ) → n < 10 ^ most_digits → number_in (decimal n) ≡ Some 
 forward n h =
     let fits : n < 2 ^ 64 = omega arith in
     let short = le-leb (length (decimal n)) most_digits (length-decimal-le most_digits n (omega arith) h fits) in
-    cond-true (plain (decimal n) && leb (length (decimal n)) most_digits) _ None (and_from _ _ (written-plain n fits) short)
+    cond-true (plain (decimal n) && leb (length (decimal n)) most_digits) _ None (and_from _ _ (written_plain n fits) short)
     ∙ digits_is 0 (decimal n) ∙ cond-true (all_digits (decimal n)) _ None (digits_decimal own n fits)
     ∙ ap (λ k. Some k) (digits_value-decimal own n fits)
 

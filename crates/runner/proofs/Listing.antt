@@ -42,9 +42,9 @@ module _ (s : State) where
   counting_more : (n : ℕ) → range_with_len 0 (n + 1) ≡ range_with_len 0 n ++ (n ∷ [])
   counting_more n = sym (map-id (range_with_len 0 (n + 1))) ∙ map-range_with_len_more (λ (k : ℕ). k) 0 n n (omega arith) ∙ ap (λ (xs : List ℕ). xs ++ (n ∷ [])) (map-id (range_with_len 0 n))
 
-  pub accounts-more : (n : ℕ) → cells_below s (n + 1) ≡ cells_below s n ++ cells_of s n columns
+  pub accounts_more : (n : ℕ) → cells_below s (n + 1) ≡ cells_below s n ++ cells_of s n columns
   unfolding cells_below
-  accounts-more n =
+  accounts_more n =
       ap (flat_map (λ (a : ℕ). cells_of s a columns)) (counting_more n)
       ∙ joined-append (λ (a : ℕ). cells_of s a columns) (range_with_len 0 n) (n ∷ [])
       ∙ ap (λ (xs : List Cell). flat_map (λ (a : ℕ). cells_of s a columns) (range_with_len 0 n) ++ xs) (append-nil (cells_of s n columns))
@@ -52,10 +52,10 @@ module _ (s : State) where
   pub text_more : (n : ℕ) (bs : List ℕ) → (bs ++ flat_map cell_text (cells_below s n)) ++ flat_map cell_text (cells_of s n columns) ≡ bs ++ flat_map cell_text (cells_below s (n + 1))
   text_more n bs =
       append_assoc bs _ _
-      ∙ ap (λ (xs : List ℕ). bs ++ xs) (sym (joined-append cell_text (cells_below s n) (cells_of s n columns)) ∙ ap (flat_map cell_text) (sym (accounts-more n)))
+      ∙ ap (λ (xs : List ℕ). bs ++ xs) (sym (joined-append cell_text (cells_below s n) (cells_of s n columns)) ∙ ap (flat_map cell_text) (sym (accounts_more n)))
 
-  pub count-more : (n : ℕ) → length (cells_below s n) + length (cells_of s n columns) ≡ length (cells_below s (n + 1))
-  count-more n = sym (length-append (cells_below s n) (cells_of s n columns)) ∙ ap length (sym (accounts-more n))
+  pub count_more : (n : ℕ) → length (cells_below s n) + length (cells_of s n columns) ≡ length (cells_below s (n + 1))
+  count_more n = sym (length-append (cells_below s n) (cells_of s n columns)) ∙ ap length (sym (accounts_more n))
 
 pub zero_is : (z : ℤ) → z ≡ pos 0 → is_zero z ≡ true
 zero_is z e = ap is_zero e

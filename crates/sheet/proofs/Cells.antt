@@ -11,8 +11,8 @@ use Rattle.ledger.specs.Limits.{accounts, columns, listed}
 use Rattle.ledger.proofs.Rises.{by_equal, in_cell_here, in_cell_off, in_column_here, in_column_off, rise_none, rise_first}
 use Rattle.sheet.specs.Cells.{sheet_cells, place_of, sheet_cell, added, posted}
 
-pub leg-listed : (l : Leg) → InRange l → listed l.account l.column ≡ true
-leg-listed l r = and_from _ _ (lt-ltb l.account accounts (omega (arith, r.account))) (lt-ltb l.column columns (omega (arith, r.column)))
+pub leg_listed : (l : Leg) → InRange l → listed l.account l.column ≡ true
+leg_listed l r = and_from _ _ (lt-ltb l.account accounts (omega (arith, r.account))) (lt-ltb l.column columns (omega (arith, r.column)))
 
 -- the cell as the list has it
 pub cell_read : (xs : List ℤ) (a k : ℕ) → sheet_cells ≤ length xs → listed a k ≡ true → sheet_cell xs a k ≡ get_or xs (place_of a k) (pos 0)
@@ -30,17 +30,17 @@ place_apart a k b j s t e =
 
 module _ (xs : List ℤ) (l : Leg) (range : InRange l) (enough : sheet_cells ≤ length xs) where
   here : listed l.account l.column ≡ true
-  here = leg-listed l range
+  here = leg_listed l range
 
   pub place_in : place_of l.account l.column < length xs
   place_in = omega (arith, range.account, range.column, enough)
 
-  still-long : sheet_cells ≤ length (added xs l)
-  still-long = omega (arith, enough, length-set xs (place_of l.account l.column) (get_or xs (place_of l.account l.column) (pos 0) +ℤ l.amount))
+  still_long : sheet_cells ≤ length (added xs l)
+  still_long = omega (arith, enough, length-set xs (place_of l.account l.column) (get_or xs (place_of l.account l.column) (pos 0) +ℤ l.amount))
 
   own : sheet_cell (added xs l) l.account l.column ≡ sheet_cell xs l.account l.column +ℤ in_cell l l.account l.column
   own =
-      cell_read (added xs l) l.account l.column still-long here
+      cell_read (added xs l) l.account l.column still_long here
       ∙ get_or-set_same xs (place_of l.account l.column) _ (pos 0) place_in
       ∙ (λ i. sym (cell_read xs l.account l.column enough here) i +ℤ sym (in_cell_here l _ _ refl ∙ in_column_here l _ refl) i)
 
@@ -48,7 +48,7 @@ module _ (xs : List ℤ) (l : Leg) (range : InRange l) (enough : sheet_cells ≤
   other : (a k : ℕ) → in_cell l a k ≡ pos 0 → (listed a k ≡ true → place_of a k ≢ place_of l.account l.column) → sheet_cell (added xs l) a k ≡ sheet_cell xs a k +ℤ in_cell l a k
   other a k z apart =
       ⊎_elim
-      (λ t. cell_read (added xs l) a k still-long t ∙ get_or-set_other xs (place_of l.account l.column) (place_of a k) _ (pos 0) (apart t) ∙ sym (cell_read xs a k enough t))
+      (λ t. cell_read (added xs l) a k still_long t ∙ get_or-set_other xs (place_of l.account l.column) (place_of a k) _ (pos 0) (apart t) ∙ sym (cell_read xs a k enough t))
       (λ f. cell_outside (added xs l) a k f ∙ sym (cell_outside xs a k f))
       (cases_Bool (listed a k))
       ∙ sym (+ℤ_idr (sheet_cell xs a k)) ∙ ap (λ y. sheet_cell xs a k +ℤ y) (sym z)
@@ -63,9 +63,9 @@ module _ (xs : List ℤ) (l : Leg) (range : InRange l) (enough : sheet_cells ≤
       (λ d. other a k (in_cell_here l a k p ∙ in_column_off l k d) (λ t e. d (sym (place_apart a k _ _ t here e).1))))
       (λ d. other a k (in_cell_off l a k d) (λ t e. d (sym (place_apart a k _ _ t here e).0)))
 
-pub posted-length : (xs : List ℤ) (ls : List Leg) → length (posted xs ls) ≡ length xs
-posted-length xs [] = refl
-posted-length xs (l ∷ ls) = posted-length (added xs l) ls ∙ length-set xs (place_of l.account l.column) (get_or xs (place_of l.account l.column) (pos 0) +ℤ l.amount)
+pub posted_length : (xs : List ℤ) (ls : List Leg) → length (posted xs ls) ≡ length xs
+posted_length xs [] = refl
+posted_length xs (l ∷ ls) = posted_length (added xs l) ls ∙ length-set xs (place_of l.account l.column) (get_or xs (place_of l.account l.column) (pos 0) +ℤ l.amount)
 
 -- the legs are added each to its own cell
 pub cell_posted : (xs : List ℤ) (ls : List Leg) → AllByRecursion InRange ls → sheet_cells ≤ length xs → (a k : ℕ) → sheet_cell (posted xs ls) a k ≡ sheet_cell xs a k +ℤ rise ls a k

@@ -11,11 +11,11 @@ use Rattle.ledger.specs.Entries.{InRange, EntryLegs}
 use Rattle.ledger.specs.Legs.{leg}
 use Rattle.ledger.specs.Limits.{listed, most_held, floor_of, ceiling_of}
 use Rattle.ledger.specs.Meaning.{entered, fits, verdict, after}
-use Rattle.ledger.proofs.Meanings.{same_meaning, entered_none, entered-more, after-taken}
+use Rattle.ledger.proofs.Meanings.{same_meaning, entered_none, entered_more, after_taken}
 use Rattle.ledger.proofs.Rises.{in_own_cell, rise_one}
-use Rattle.ledger.proofs.Walk.{left, left_step, verdict-taken}
+use Rattle.ledger.proofs.Walk.{left, left_step, verdict_taken}
 use Rattle.sheet.specs.Cells.{sheet_cells, long, place_of, sheet_cell, sheet_over, added, posted, settled_cells, cells_after}
-use Rattle.sheet.proofs.Cells.{leg-listed, cell_read, cell_posted, posted-length, place_in}
+use Rattle.sheet.proofs.Cells.{leg_listed, cell_read, cell_posted, posted_length, place_in}
 
 -- only a list that is long enough has room
 room_long : (xs : List ℤ) (room n : ℕ) → n < cond (long xs) room 0 → sheet_cells ≤ length xs
@@ -49,13 +49,13 @@ module _ (xs ys : List ℤ) (room : ℕ) (ls : List Leg) (i : ℕ)
   range = All-get_or InRange ls i (leg 0 0 (pos 0)) lt lawful.each
 
   long_xs : sheet_cells ≤ length xs
-  long_xs = room_long xs room i (omega (arith, lt, (verdict-taken (sheet_over xs room) ls taken).0))
+  long_xs = room_long xs room i (omega (arith, lt, (verdict_taken (sheet_over xs room) ls taken).0))
 
   long_ys : sheet_cells ≤ length ys
-  long_ys = omega (arith, long_xs, ap length same, posted-length xs (take i ls))
+  long_ys = omega (arith, long_xs, ap length same, posted_length xs (take i ls))
 
   here : listed (leg_at ls i).account (leg_at ls i).column ≡ true
-  here = leg-listed (leg_at ls i) range
+  here = leg_listed (leg_at ls i) range
 
   -- the sum is the leg's cell once the leg is entered
   next : get_or ys (place_of (leg_at ls i).account (leg_at ls i).column) (pos 0) +ℤ (leg_at ls i).amount ≡ (entered (entered (sheet_over xs room) (take i ls)) (leg_at ls i ∷ [])).cell (leg_at ls i).account (leg_at ls i).column
@@ -67,11 +67,11 @@ module _ (xs ys : List ℤ) (room : ℕ) (ls : List Leg) (i : ℕ)
       +ℤ (sym (rise_one (leg_at ls i) (leg_at ls i).account (leg_at ls i).column ∙ in_own_cell (leg_at ls i))) j)
 
   within : fits (entered (entered (sheet_over xs room) (take i ls)) (leg_at ls i ∷ [])) (leg_at ls i) ≡ true
-  within = subst (λ m. fits m (leg_at ls i) ≡ true) (sym (entered-more (sheet_over xs room) ls i (leg 0 0 (pos 0)) lt)) (left_step (sheet_over xs room) ls i (leg 0 0 (pos 0)) lt on).0
+  within = subst (λ m. fits m (leg_at ls i) ≡ true) (sym (entered_more (sheet_over xs room) ls i (leg 0 0 (pos 0)) lt)) (left_step (sheet_over xs room) ls i (leg 0 0 (pos 0)) lt on).0
 
-  pub next-leg : Next xs ys room ls i
+  pub next_leg : Next xs ys room ls i
   unfolding entered
-  next-leg = record {
+  next_leg = record {
     range = range;
     listed = here;
     place = place_in ys (leg_at ls i) range long_ys;
@@ -90,7 +90,7 @@ long_meaning : (xs : List ℤ) (room : ℕ) (ls : List Leg) → AllByRecursion I
 unfolding entered
 long_meaning xs room ls r t =
     let h : sheet_cells ≤ length xs = leb-true sheet_cells (length xs) t in
-    let still : long (posted xs ls) ≡ true = ap (leb sheet_cells) (posted-length xs ls) ∙ t in
+    let still : long (posted xs ls) ≡ true = ap (leb sheet_cells) (posted_length xs ls) ∙ t in
     same_meaning (sheet_over (posted xs ls) (room - length ls)) (entered (sheet_over xs room) ls)
     (cond-true _ _ _ still ∙ ap (λ n. n - length ls) (sym (cond-true _ _ _ t)))
     (λ a k. cell_posted xs ls r h a k)
@@ -102,12 +102,12 @@ pub posted_meaning : (xs : List ℤ) (room : ℕ) (ls : List Leg) → verdict (s
 posted_meaning xs room ls e h =
     ⊎_elim
     (long_meaning xs room ls h.each)
-    (λ f. short_meaning xs room ls f (verdict-taken (sheet_over xs room) ls e).0)
+    (λ f. short_meaning xs room ls f (verdict_taken (sheet_over xs room) ls e).0)
     (cases_Bool (long xs))
 
 -- the sheet and its list once the legs were taken
 pub taken_meaning : (xs ys : List ℤ) (room r : ℕ) (ls : List Leg) → verdict (sheet_over xs room) ls ≡ Ok tt → EntryLegs ls → ys ≡ posted xs ls → r ≡ room - length ls → sheet_over ys r ≡ after (sheet_over xs room) ls
-taken_meaning xs ys room r ls t h e f = (λ i. sheet_over (e i) (f i)) ∙ posted_meaning xs room ls t h ∙ sym (after-taken (sheet_over xs room) ls t)
+taken_meaning xs ys room r ls t h e f = (λ i. sheet_over (e i) (f i)) ∙ posted_meaning xs room ls t h ∙ sym (after_taken (sheet_over xs room) ls t)
 
 pub taken_cells : (xs ys : List ℤ) (room : ℕ) (ls : List Leg) → verdict (sheet_over xs room) ls ≡ Ok tt → ys ≡ posted xs ls → ys ≡ cells_after xs room ls
 taken_cells xs ys room ls t e = e ∙ sym (ap (λ r. settled_cells r (posted xs ls) xs) t)

@@ -6,7 +6,7 @@ use Rattle.money.specs.Conversions.{most_amount}
 use Rattle.ledger.specs.Entries.{in_range}
 use Rattle.ledger.proofs.Rises.{in_cell_here, in_cell_off, in_column_here, in_column_off}
 use Rattle.journal.specs.Journal.{in_record}
-use Rattle.journal.proofs.Records.{leg-recorded, elsewhere, no_leg}
+use Rattle.journal.proofs.Records.{leg_recorded, elsewhere, no_leg}
 use Rattle.journal.proofs.sums.in_record.Goals as goal
 use Rattle.journal.proofs.sums.in_record.Goals.{else-is_leg-via-then-is_leg+then-leg-account+else-leg-column, else-is_leg-via-then-is_leg+else-leg-account, else-is_leg-via-else-is_leg}
 
@@ -17,7 +17,7 @@ returns-then-leg-column c =
     let k = c.args.column in
     let is : in_range l ≡ true = sym c.if-is_leg.ensures in
     let most : nat_abs l.amount ≤ most_amount = grind (arith, nat_tests) in
-    let adds : in_record l a k ≡ l.amount = leg-recorded l a k is ∙ in_cell_here l a k c.if-leg-account.true ∙ in_column_here l k c.if-leg-column.true in
+    let adds : in_record l a k ≡ l.amount = leg_recorded l a k is ∙ in_cell_here l a k c.if-leg-account.true ∙ in_column_here l k c.if-leg-column.true in
     record { value = omega (arith, ints); bound = omega (arith, ints) }
 
 pub returns-else-is_leg : goal.returns-else-is_leg

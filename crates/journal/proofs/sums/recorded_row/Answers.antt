@@ -5,7 +5,7 @@ use Rattle.ledger.specs.Entries.{in_range}
 use Rattle.ledger.specs.Legs.{leg}
 use Rattle.ledger.proofs.Rises.{in_cell_off}
 use Rattle.journal.proofs.Records.{elsewhere, no_leg}
-use Rattle.journal.proofs.Rows.{Row, in_range_lem, row_none, row_same, row_more, row-all}
+use Rattle.journal.proofs.Rows.{Row, in_range_lem, row_none, row_same, row_more, row_all}
 use Rattle.journal.proofs.sums.recorded_row.Goals as goal
 use Rattle.journal.proofs.sums.recorded_row.Goals.{then-leg-account+then-is_leg, else-leg-account, else-leg-account-via-then-leg-account+else-is_leg, else-leg-account-via-else-leg-account}
 
@@ -39,5 +39,5 @@ loop-leg-preserved c =
 pub returns : goal.returns
 returns c = record {
   count = c.loop-leg.invariant.count;
-  cells = row-all c.args.records.now c.args.account c.loop-leg.leg-index c.loop-leg.row c.loop-leg-test.false c.loop-leg.invariant;
+  cells = row_all c.args.records.now c.args.account c.loop-leg.leg-index c.loop-leg.row c.loop-leg-test.false c.loop-leg.invariant;
 }

@@ -6,7 +6,7 @@ use Rattle.std.proofs.lemmas.Bool.{cond-true}
 use Rattle.ledger.specs.Entries.{most_legs}
 use Rattle.ledger.specs.Legs.{leg, rise}
 use Rattle.ledger.specs.Meaning.{fits, entered, verdict}
-use Rattle.ledger.proofs.Walk.{left-more, verdict_room, verdict_stopped, verdict_walked}
+use Rattle.ledger.proofs.Walk.{left_more, verdict_room, verdict_stopped, verdict_walked}
 use Rattle.ledger.proofs.Widths.{read_back, sum_back}
 use Rattle.ledger.proofs.verdict.check.Given as given
 use Rattle.ledger.proofs.verdict.check.Goals as goal
@@ -47,7 +47,7 @@ loop-i-preserved g c =
     let m = g.B.Balances.meaning c.args.ledger.now in
     let ls = c.legs-legs.result.now in
     let ok = told g (goal.at.loop-i-preserved g c).After-within ∙ c.if-not-within.false in
-    sym (left-more m ls c.loop-i.i (leg 0 0 (pos 0)) c.loop-i-test.true ∙ cond-true _ _ _ ok) ∙ c.loop-i.invariant
+    sym (left_more m ls c.loop-i.i (leg 0 0 (pos 0)) c.loop-i-test.true ∙ cond-true _ _ _ ok) ∙ c.loop-i.invariant
 
 pub returns : goal.returns
 returns g c =

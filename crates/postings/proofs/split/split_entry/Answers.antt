@@ -6,7 +6,7 @@ use Rattle.ledger.specs.Legs.{leg}
 use Rattle.model.specs.Postings.{portion_legs}
 use Rattle.postings.specs.Drafts.{drawn, with_leg, with_legs, entry_in, entry_legs}
 use Rattle.postings.proofs.Drawing.{leg_same, drawn_first, drawn_up}
-use Rattle.postings.proofs.Splitting.{portions-more, shares_end, portions-end}
+use Rattle.postings.proofs.Splitting.{portions_more, shares_end, portions_end}
 use Rattle.postings.proofs.split.split_entry.Goals as goal
 
 pub loop-i-preserved : goal.loop-i-preserved
@@ -17,7 +17,7 @@ loop-i-preserved c =
     let ps = c.args.portions.now in
     let rest = portion_legs k (drop (i + 1) ss) (drop (i + 1) ps) in
     ap (λ o. with_legs o rest) (c.with_leg-draft-in-loop-i.ensures ∙ ap (with_leg (drawn c.loop-i.draft)) (leg_same _ _ _ _ _ refl (omega (arith, ints))))
-    ∙ sym (ap (with_legs (drawn c.loop-i.draft)) (portions-more k ss ps i (omega arith) (omega arith)))
+    ∙ sym (ap (with_legs (drawn c.loop-i.draft)) (portions_more k ss ps i (omega arith) (omega arith)))
     ∙ c.loop-i.invariant
 
 pub returns : goal.returns
@@ -29,7 +29,7 @@ returns c =
     let ps = c.args.portions.now in
     let none : portion_legs k (drop i ss) (drop i ps) ≡ [] =
     ⊎_elim
-    (λ (l : i < length ss). portions-end k ss ps i i (omega (arith, c.min-i-end.ensures)))
+    (λ (l : i < length ss). portions_end k ss ps i i (omega (arith, c.min-i-end.ensures)))
     (λ (l : length ss ≤ i). shares_end k ss ps i l)
     (cases_lt i (length ss)) in
     c.entry.ensures

@@ -4,7 +4,7 @@ use lib.Signed.{quot_z}
 use Rattle.ledger.specs.Columns.{whole_parts}
 use Rattle.model.specs.Postings.{most_swept, within, sweepable}
 use Rattle.postings.specs.Sweeps.{Swept}
-use Rattle.postings.proofs.Sweeping.{parts-small, swept, within_above, within_below, within_itself, quot_back}
+use Rattle.postings.proofs.Sweeping.{parts_small, swept, within_above, within_below, within_itself, quot_back}
 use Rattle.postings.proofs.sweep.sweepable.Goals as goal
 use Rattle.postings.proofs.sweep.sweepable.Goals.{After-parts}
 
@@ -13,7 +13,7 @@ abbrev cut : After-parts → ℤ
 cut c = to_z w64 (of_z w64 (quot_z (to_z w64 (of_z w64 c.args.cell)) (to_z w64 c.parts.result)))
 
 whole : (c : After-parts) → cut c ≡ quot_z c.args.cell (pos (whole_parts c.args.column))
-whole c = quot_back c.args.cell c.parts.result (whole_parts c.args.column) c.ranges.cell c.parts.ensures (parts-small c.args.column).1
+whole c = quot_back c.args.cell c.parts.result (whole_parts c.args.column) c.ranges.cell c.parts.ensures (parts_small c.args.column).1
 
 -- what is answered is what is swept
 answered : (c : After-parts) (q : ℤ) → q ≡ sweepable c.args.column c.args.cell → Swept c.args.column c.args.cell q

@@ -2,7 +2,7 @@
 use Rattle.std.proofs.Common.{◌-◌, ◌<◌, length, take, drop, arith}
 use Rattle.std.proofs.lemmas.List.{take_rest}
 use Rattle.reader.proofs.Cuts.{words_end}
-use Rattle.reader.proofs.Filling.{fill_all, step-more, step_past}
+use Rattle.reader.proofs.Filling.{fill_all, step_more, step_past}
 use Rattle.reader.proofs.word.split_words.Goals as goal
 use Rattle.reader.proofs.word.split_words.Goals.{then-count-words, else-count-words}
 
@@ -20,6 +20,6 @@ loop-from-preserved c =
     let starts = take_rest rest g in
     let left = take_rest (take (length rest - g) (drop g rest)) c.count_before-len.result in
     elim c.if-count-words.branch [
-      | then-count-words w ↦ step-more _ _ _ _ _ _ c.loop-from.invariant _ _ _ _ c.count_leading-gap.ensures.value starts c.count_before-len.ensures.value left some _ _ w.read_word.ensures w.if-count-words.true w.words-is
+      | then-count-words w ↦ step_more _ _ _ _ _ _ c.loop-from.invariant _ _ _ _ c.count_leading-gap.ensures.value starts c.count_before-len.ensures.value left some _ _ w.read_word.ensures w.if-count-words.true w.words-is
       | else-count-words w ↦ step_past _ _ _ _ _ _ c.loop-from.invariant _ _ _ _ c.count_leading-gap.ensures.value starts c.count_before-len.ensures.value left some _ w.if-count-words.false w.words-is
     ]

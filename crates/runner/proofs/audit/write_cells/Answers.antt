@@ -6,7 +6,7 @@ use Rattle.transcript.specs.declared.audit.Cell.{Cell}
 use Rattle.transcript.specs.Text.{cell_text}
 use Rattle.book.specs.View.{state_of}
 use Rattle.runner.specs.Audit.{cells_of}
-use Rattle.runner.proofs.Listing.{accounts_none, text_more, count-more}
+use Rattle.runner.proofs.Listing.{accounts_none, text_more, count_more}
 use Rattle.runner.proofs.audit.write_cells.Goals as goal
 
 pub loop-account-init : goal.loop-account-init
@@ -24,6 +24,6 @@ loop-account-preserved g c =
     let inv = c.loop-account.invariant in
     let wrote = c.in_ok-cells.ensures in (
       wrote.text ∙ ap (λ (bs : List ℕ). bs ++ flat_map cell_text (cells_of s a columns)) inv.0 ∙ text_more s a before,
-      (λ i. inv.1 i + wrote.count i) ∙ count-more s a,
+      (λ i. inv.1 i + wrote.count i) ∙ count_more s a,
       omega (arith, wrote.bound, inv.2),
     )

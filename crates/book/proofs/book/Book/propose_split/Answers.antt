@@ -7,7 +7,7 @@ use Rattle.apportion.proofs.Fairness.{length-portions, length-fractions}
 use Rattle.ledger.proofs.Entries.{entry_legs_lem}
 use Rattle.postings.proofs.Valid.{split_is_entry}
 use Rattle.book.specs.View.{state_of}
-use Rattle.book.proofs.Splits.{front_of, holds_front, wide_passes, splitting_refused, splitting_passes, entering-splits}
+use Rattle.book.proofs.Splits.{front_of, holds_front, wide_passes, splitting_refused, splitting_passes, entering_splits}
 use Rattle.book.proofs.book.Book.propose_split.Goals as goal
 
 pub returns-in_err-apportion : goal.returns-in_err-apportion
@@ -51,7 +51,7 @@ returns g c =
     let is = entry_legs_lem _ (split_is_entry tie (g.met.R.TieRule.lawful c.args.rule.now) d kind shares m n account (sym passes)) in
     record {
       value =
-          ap Ok (entering-splits tie d kind shares (take k c.apportion.new.portions) (take (k - 0) c.apportion.new.portions) (take k c.apportion.new.fractions) c.split_entry-entry.result ps (ap (λ j. take j c.apportion.new.portions) (omega arith)) fs c.split_entry-entry.ensures is)
+          ap Ok (entering_splits tie d kind shares (take k c.apportion.new.portions) (take (k - 0) c.apportion.new.portions) (take k c.apportion.new.fractions) c.split_entry-entry.result ps (ap (λ j. take j c.apportion.new.portions) (omega arith)) fs c.split_entry-entry.ensures is)
           ∙ splitting_passes s tie d shares m n kind c.if-not-self.false (sym c.in_ok-currency.ensures) account passes;
       portions = record { front = ps; enough = holds_front _ _ k ps (length-portions tie amount shares); room = long };
       fractions = record { front = fs; enough = holds_front _ _ k fs (length-fractions tie amount shares); room = wide };

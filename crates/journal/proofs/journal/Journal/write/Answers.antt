@@ -3,7 +3,7 @@ use Rattle.std.proofs.Common.{◌≡◌, ◌+◌, ◌<◌, ◌++◌, length, get
 use Rattle.std.proofs.lemmas.List.Edits.{paste_none, paste_more, paste_all}
 use Rattle.ledger.specs.Legs.{leg}
 use Rattle.journal.specs.Journal.{records_taken, journal_over, written}
-use Rattle.journal.proofs.Records.{taken-written, entered-written}
+use Rattle.journal.proofs.Records.{taken_written, entered-written}
 use Rattle.journal.proofs.journal.Journal.write.Goals as goal
 
 pub loop-i-init : goal.loop-i-init
@@ -30,7 +30,7 @@ returns c =
     let whole : c.loop-i.self.records.now ≡ written rs n ls = c.loop-i.invariant.0 ∙ paste_all rs n ls c.loop-i.i end ∙ ap (λ j. take n rs ++ (ls ++ drop (n + j) rs)) end in
     record {
       meaning = ap (λ xs. journal_over xs (n + length ls)) whole ∙ entered-written rs ls n c.requires.lawful.each c.requires.room;
-      appended = ap (λ xs. records_taken xs (n + length ls)) whole ∙ taken-written rs ls n c.requires.room;
+      appended = ap (λ xs. records_taken xs (n + length ls)) whole ∙ taken_written rs ls n c.requires.room;
       records = whole;
       taken = refl;
       named = c.loop-i.invariant.2;

@@ -1,16 +1,16 @@
 -- Assumes nothing.
 use Rattle.std.proofs.Common.{◌≡◌, sym, refl, ap, ◌∙◌, arith}
 use Rattle.std.specs.Str.{bytes_eq}
-use Rattle.money.proofs.Codes.{coded_from, coded-start, coded-end, coded_here, coded-more}
+use Rattle.money.proofs.Codes.{coded_from, coded_start, coded_end, coded_here, coded_more}
 use Rattle.money.proofs.currency.Currency.from_code.Goals as goal
 
 pub loop-currency-init : goal.loop-currency-init
-loop-currency-init c = coded-start c.args.code
+loop-currency-init c = coded_start c.args.code
 
 pub returns : goal.returns
 returns c =
     let e : c.loop-currency.currency-index ≡ 12 = omega arith in
-    sym (c.loop-currency.invariant ∙ ap (coded_from c.args.code) e ∙ coded-end c.args.code)
+    sym (c.loop-currency.invariant ∙ ap (coded_from c.args.code) e ∙ coded_end c.args.code)
 
 pub returns-then-eq : goal.returns-then-eq
 returns-then-eq c =
@@ -19,5 +19,5 @@ returns-then-eq c =
 
 pub loop-currency-preserved : goal.loop-currency-preserved
 loop-currency-preserved c =
-    c.loop-currency.invariant ∙ coded-more c.args.code c.loop-currency.currency-index _ (omega arith) refl
+    c.loop-currency.invariant ∙ coded_more c.args.code c.loop-currency.currency-index _ (omega arith) refl
     (ap (bytes_eq c.args.code) (sym c.code.ensures) ∙ sym c.eq.ensures ∙ c.if-eq.false)

@@ -3,10 +3,10 @@ use Rattle.std.proofs.Common.{◌≡◌, ◌-◌, ◌<◌, ◌≤◌, length, ge
 use Rattle.std.proofs.lemmas.List.{take_all}
 use Rattle.std.proofs.lemmas.Int.{ints}
 use Rattle.std.proofs.lemmas.Bool.{cond_both}
-use Rattle.ledger.proofs.Walk.{verdict_walk, verdict-taken}
+use Rattle.ledger.proofs.Walk.{verdict_walk, verdict_taken}
 use Rattle.sheet.specs.Cells.{long, place_of, posted}
 use Rattle.sheet.specs.Sheet.{sheet_meaning}
-use Rattle.sheet.proofs.Posting.{Next, next-leg, leg_at}
+use Rattle.sheet.proofs.Posting.{Next, next_leg, leg_at}
 use Rattle.sheet.proofs.sheet.Sheet.post.Goals as goal
 use Rattle.sheet.proofs.sheet.Sheet.post.Goals.{After-place_of-place}
 
@@ -14,14 +14,14 @@ pub loop-leg-init : goal.loop-leg-init
 loop-leg-init c =
     let m = sheet_meaning c.args.self.now in
     let ls = c.args.legs.now in
-    (refl, sym (verdict_walk m ls (verdict-taken m ls c.requires.taken).0) ∙ c.requires.taken, refl, refl)
+    (refl, sym (verdict_walk m ls (verdict_taken m ls c.requires.taken).0) ∙ c.requires.taken, refl, refl)
 
 pub place_of-place-requires : goal.place_of-place-requires
-place_of-place-requires c = (next-leg _ _ _ _ _ c.requires.taken c.requires.lawful c.loop-leg-test.true c.loop-leg.invariant.0 c.loop-leg.invariant.1).listed
+place_of-place-requires c = (next_leg _ _ _ _ _ c.requires.taken c.requires.lawful c.loop-leg-test.true c.loop-leg.invariant.0 c.loop-leg.invariant.1).listed
 
 -- what holds once the leg's place is known
 at_place : (c : After-place_of-place) → Next c.args.self.now.cells.now c.loop-leg.self.cells.now c.args.self.now.room c.args.legs.now c.loop-leg.leg-index
-at_place c = next-leg _ _ _ _ _ c.requires.taken c.requires.lawful c.loop-leg-test.true c.loop-leg.invariant.0 c.loop-leg.invariant.1
+at_place c = next_leg _ _ _ _ _ c.requires.taken c.requires.lawful c.loop-leg-test.true c.loop-leg.invariant.0 c.loop-leg.invariant.1
 
 -- the number that the leg's cell gets, and that it fits
 pub record Sum (c : After-place_of-place) : Type 0 where
@@ -69,7 +69,7 @@ pub overflow_sub-self : goal.overflow_sub-self
 overflow_sub-self c =
     let m = sheet_meaning c.args.self.now in
     let room = c.args.self.now.room in
-    let enough : length c.args.legs.now ≤ m.room = (verdict-taken m c.args.legs.now c.requires.taken).0 in
+    let enough : length c.args.legs.now ≤ m.room = (verdict_taken m c.args.legs.now c.requires.taken).0 in
     omega (arith, enough, c.loop-leg.invariant.2, cond_both (long c.args.self.now.cells.now) room 0 (λ n. n ≤ room) (λ _. omega arith) (λ _. omega arith))
 
 pub returns : goal.returns
