@@ -1,5 +1,4 @@
 //! A whole job on a book, from opening to audit, with every action printed.
-use crate::books::{carry_number, convert_and_park, show_audit};
 use apportion::{Fraction, Share, SmallerPlace};
 use book::Book;
 use journal::Journal;
@@ -8,6 +7,8 @@ use model::{Division, Exchange, Posting};
 use money::Minor;
 use reader::read_line;
 use register::Fault;
+use requests::{carry_number, convert_and_park};
+use runner::write_audit;
 use std::io;
 
 const EUR: u64 = 0;
@@ -160,7 +161,15 @@ pub(crate) fn show(rt: &HostRuntime) -> anyhow::Result<()> {
     Ok(())
 }
 
-fn show_job<L: Ledger>(rt: &HostRuntime, book: &mut Book<L>) -> io::Result<()> {
+/// Prints the audit of a book.
+fn show_audit<L: Ledger>(rt: &HostRuntime, book: &Book<L>) -> anyhow::Result<()> {
+    let mut text = String::new(rt.alloc());
+    write_audit(book, &mut text)?;
+    print!(rt; "{text}")?;
+    Ok(())
+}
+
+fn show_job<L: Ledger>(rt: &HostRuntime, book: &mut Book<L>) -> anyhow::Result<()> {
     let capital = [
         Posting {
             account: 10,

@@ -1,11 +1,11 @@
 //! Where a book's limits lie, each compared with what was reckoned by hand.
-use crate::books::{carry_number, convert_and_park};
 use book::Book;
 use journal::Journal;
 use ledger::{Balances, Ledger, Leg};
 use model::Exchange;
 use money::{MOST_AMOUNT, Minor};
 use register::Fault;
+use requests::{carry_number, convert_and_park};
 use std::io;
 
 const BLANK: Leg = Leg {

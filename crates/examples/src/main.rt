@@ -1,7 +1,6 @@
 //! Worked examples: real vouchers of the changeover, taken through the engine and printed step by step.
 #![tactic(auto)]
 
-mod books;
 mod heirs;
 mod invoice;
 mod job;
