@@ -24,6 +24,8 @@ mod slips;
 mod split;
 mod sweep;
 
+pub use currency::currency_at;
+
 /// A ledger that only this book changes, with the book's mark, whether it is fit, how many slips it has given, and
 /// the docket of those whose residues no account has taken yet.
 #[derive(Drop)]

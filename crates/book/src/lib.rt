@@ -4,5 +4,5 @@
 mod book;
 mod slip;
 
-pub use book::Book;
+pub use book::{Book, currency_at};
 pub use slip::Slip;

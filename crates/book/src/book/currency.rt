@@ -8,7 +8,7 @@ use money::Currency;
 use register::{BookCause, BookFault};
 
 /// The currency of a number: refused 2.
-pub(crate) fn currency_at(number: u64) -> Result<Currency, BookFault>
+pub fn currency_at(number: u64) -> Result<Currency, BookFault>
     ensures { book_answer result ≡ currency_at number 0 }
 {
     match Currency::from_number(number) {
