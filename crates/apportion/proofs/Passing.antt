@@ -3,7 +3,7 @@ use Rattle.std.proofs.Common.{◌≡◌, ℕ, zero, suc, ◌+◌, ◌<◌, ◌�
 use Rattle.std.proofs.lemmas.Int.{ints}
 use Rattle.std.proofs.lemmas.Bool.{false≢true, ltb-false, le-ltb, eqb-false, ne_eqb, or_parts, cond-true, cond-false}
 use Rattle.std.proofs.lemmas.Bool.Decides.{nat_tests}
-use Rattle.register.specs.declared.fault.BookFault.{BookFault}
+use Rattle.register.specs.Register.{BookFault}
 use Rattle.register.specs.Register.{Refusal, book_answer}
 use Rattle.money.specs.Conversions.{most_amount, convertible}
 use Rattle.apportion.specs.declared.share.Share.{Share}

@@ -1,6 +1,6 @@
 -- When a split is refused, and with what. Assumes nothing.
 use Rattle.std.specs.Prelude.{◌≡◌, ℕ, ◌+◌, ◌<◌, ◌≤◌, Bool, true, cond, ◌||◌, List, [], ◌∷◌, length, ℤ, pos, Ok, Err, Result, MatchResult, ◌==◌, nat_lt}
-use Rattle.register.specs.declared.fault.BookFault.{BookFault}
+use Rattle.register.specs.Register.{BookFault}
 use Rattle.register.specs.Register.{Refusal, by_book}
 use Rattle.money.specs.Conversions.{most_amount, convertible}
 use Rattle.apportion.specs.declared.share.Share.{Share}

@@ -1,7 +1,7 @@
 //! The shares of a split.
 
 /// An account and its weight, as a line gives them: the check of a split tests both.
-#[derive(Clone, Copy)]
+#[derive(Clone, Copy, Default)]
 pub struct Share {
     pub account: u64,
     pub weight: u64,

@@ -1,6 +1,6 @@
 -- A post is what is posted, once the book is fit. Assumes nothing.
 use Rattle.std.proofs.Common.{◌≡◌, true, List, Some, Ok, Err, Result, sym, refl, ap, ◌∙◌}
-use Rattle.register.specs.declared.fault.BookFault.{BookFault}
+use Rattle.register.specs.Register.{BookFault}
 use Rattle.register.specs.Register.{Refusal, book_answer}
 use Rattle.ledger.specs.declared.entry.Entry.{Entry}
 use Rattle.ledger.specs.declared.leg.Leg.{Leg}

@@ -1,6 +1,6 @@
 -- What the book puts to its ledger once it has no refusal of its own, as the model's movements. Assumes nothing.
 use Rattle.std.specs.Prelude.{◌≡◌, ℕ, ◌+◌, ◌<◌, ◌≤◌, List, length, take, Some, Ok, Err, Result}
-use Rattle.register.specs.declared.fault.BookFault.{BookFault}
+use Rattle.register.specs.Register.{BookFault}
 use Rattle.register.specs.declared.fault.Fault.TheVariants.{Book}
 use Rattle.register.specs.Register.{Refusal, registered}
 use Rattle.ledger.specs.declared.entry.Entry.{Entry}

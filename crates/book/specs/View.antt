@@ -1,7 +1,7 @@
 -- What a book means to the model, and how its answers read there. Assumes nothing.
 use Rattle.std.specs.Prelude.{ℕ, List, Ok, Err, Result}
 use Rattle.register.specs.declared.cause.BookCause.{BookCause}
-use Rattle.register.specs.declared.fault.BookFault.{BookFault}
+use Rattle.register.specs.Register.{BookFault}
 use Rattle.register.specs.declared.fault.Fault.{Fault}
 use Rattle.register.specs.Register.{Refusal, registered}
 use Rattle.money.specs.declared.quantity.Minor.{Minor}

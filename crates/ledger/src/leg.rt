@@ -8,7 +8,7 @@ use crate::column::FractionColumn;
 use money::{Currency, Minor, Parts};
 
 /// A cell, by account and column, and what it grows by: plus is debit.
-#[derive(Clone, Copy)]
+#[derive(Clone, Copy, Default)]
 pub struct Leg {
     pub account: u8,
     pub column: u8,

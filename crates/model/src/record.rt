@@ -2,16 +2,17 @@
 use money::{Currency, Parts};
 
 /// Where the slip of a record is.
-#[derive(Clone, Copy)]
+#[derive(Clone, Copy, Default)]
 pub enum Standing {
     /// Out on a slip, which its holder may carry or park.
+    #[default]
     Out,
     /// Parked: the slip has ended, and the number may be taken up again.
     Parked,
 }
 
 /// What the docket keeps of a conversion: the number of its slip, its currencies, and both residues, 0 where absent.
-#[derive(Clone, Copy)]
+#[derive(Clone, Copy, Default)]
 pub struct Record {
     pub number: u32,
     pub from: Currency,

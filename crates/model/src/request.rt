@@ -2,7 +2,7 @@
 use money::Minor;
 
 /// A leg of a post: an amount into a currency's money column of an account. Plus is debit.
-#[derive(Clone, Copy)]
+#[derive(Clone, Copy, Default)]
 pub struct Posting {
     pub account: u64,
     pub currency: u64,

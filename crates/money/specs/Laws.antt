@@ -1,6 +1,6 @@
 -- What conversions keep, in the subject's terms. Assumes nothing.
 use Rattle.std.specs.Prelude.{◌≡◌, ℕ, ◌*◌, ℤ, pos, ◌+ℤ◌, ◌*ℤ◌, neg_ℤ, ◌≤ℤ◌, ◌<ℤ◌, Result, MatchResult, ◌≢◌, unsigned_abs}
-use Rattle.register.specs.declared.fault.BookFault.{BookFault}
+use Rattle.register.specs.Register.{BookFault}
 use Rattle.money.specs.declared.currency.Currency.{Currency}
 use Rattle.money.specs.declared.currency.Currency.TheVariants.{Euro, National as Of}
 use Rattle.money.specs.declared.conversion.Route.{Route}

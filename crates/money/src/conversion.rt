@@ -54,12 +54,6 @@ impl Conversion {
     }
 }
 
-fn refused(cause: BookCause) -> BookFault
-    ensures { result ≡ record { cause = cause; place = 0 } }
-{
-    BookFault { cause, place: 0 }
-}
-
 impl Route {
     /// The route between two currencies; equal ones are refused.
     pub fn new(from: Currency, to: Currency) -> Result<Route, BookFault>
@@ -67,16 +61,12 @@ impl Route {
         ensures joins { Joins from to result }
     {
         match (from, to) {
-            (Currency::Euro, Currency::Euro) => Err(refused(BookCause::EqualCurrencies)),
             (Currency::Euro, Currency::National(to)) => Ok(Route::FromEuro(to)),
             (Currency::National(from), Currency::Euro) => Ok(Route::IntoEuro(from)),
-            (Currency::National(from), Currency::National(to)) => {
-                if from == to {
-                    Err(refused(BookCause::EqualCurrencies))
-                } else {
-                    Ok(Route::Between(from, to))
-                }
+            (Currency::National(from), Currency::National(to)) if from != to => {
+                Ok(Route::Between(from, to))
             }
+            _ => Err(BookCause::EqualCurrencies.into()),
         }
     }
 
@@ -87,11 +77,11 @@ impl Route {
         ensures lossless { IfOk result (λ c. Lossless self (unsigned_abs amount.0) c) }
     {
         if amount.0 < 1 || amount.0 > MOST_AMOUNT {
-            return Err(refused(BookCause::AmountOutOfRange));
+            return Err(BookCause::AmountOutOfRange.into());
         }
         let conversion = self.exchange(amount.0 as u64);
         if conversion.booked().0 > MOST_AMOUNT {
-            return Err(refused(BookCause::BookedTooMuch));
+            return Err(BookCause::BookedTooMuch.into());
         }
         Ok(conversion)
     }

@@ -4,25 +4,26 @@ ghost use Rattle.money.specs.Table.{rate, parts, number_of, code_of, numbered, c
 
 use std::fmt;
 
-/// A national currency that the euro replaced.
+/// A national currency that the euro replaced, and its number in the table.
 #[derive(Clone, Copy, PartialEq, Eq)]
 pub enum National {
-    Bef,
-    Dem,
-    Esp,
-    Frf,
-    Iep,
-    Itl,
-    Luf,
-    Nlg,
-    Ats,
-    Pte,
-    Fim,
+    Bef = 1,
+    Dem = 2,
+    Esp = 3,
+    Frf = 4,
+    Iep = 5,
+    Itl = 6,
+    Luf = 7,
+    Nlg = 8,
+    Ats = 9,
+    Pte = 10,
+    Fim = 11,
 }
 
 /// The euro, or a national currency.
-#[derive(Clone, Copy)]
+#[derive(Clone, Copy, Default, PartialEq, Eq)]
 pub enum Currency {
+    #[default]
     Euro,
     National(National),
 }
@@ -86,17 +87,7 @@ impl Currency {
     {
         match self {
             Currency::Euro => 0,
-            Currency::National(National::Bef) => 1,
-            Currency::National(National::Dem) => 2,
-            Currency::National(National::Esp) => 3,
-            Currency::National(National::Frf) => 4,
-            Currency::National(National::Iep) => 5,
-            Currency::National(National::Itl) => 6,
-            Currency::National(National::Luf) => 7,
-            Currency::National(National::Nlg) => 8,
-            Currency::National(National::Ats) => 9,
-            Currency::National(National::Pte) => 10,
-            Currency::National(National::Fim) => 11,
+            Currency::National(national) => national as u8,
         }
     }
 
@@ -124,21 +115,7 @@ impl Currency {
     pub fn from_number(number: u64) -> Option<Currency>
         ensures { result ≡ numbered number }
     {
-        match number {
-            0 => Some(Currency::Euro),
-            1 => Some(Currency::National(National::Bef)),
-            2 => Some(Currency::National(National::Dem)),
-            3 => Some(Currency::National(National::Esp)),
-            4 => Some(Currency::National(National::Frf)),
-            5 => Some(Currency::National(National::Iep)),
-            6 => Some(Currency::National(National::Itl)),
-            7 => Some(Currency::National(National::Luf)),
-            8 => Some(Currency::National(National::Nlg)),
-            9 => Some(Currency::National(National::Ats)),
-            10 => Some(Currency::National(National::Pte)),
-            11 => Some(Currency::National(National::Fim)),
-            _ => None,
-        }
+        Currency::ALL.get(number as usize).copied()
     }
 
     /// The currency of that code, or none if the table has no such code.

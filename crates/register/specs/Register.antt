@@ -6,9 +6,8 @@ use Rattle.register.specs.declared.cause.BookCause.{BookCause}
 use Rattle.register.specs.declared.cause.BookCause.TheVariants.{Unfit, UnknownCurrency, EqualCurrencies, AccountNotNamed, AmountOutOfRange, LegCount, Unbalanced, Shares, BookedTooMuch, DocketFull, SlipsExhausted, ForeignSlip, NotOnDocket, SlipIsOut, NothingToSweep, NotAFractionColumn, ListsTooShort}
 use Rattle.register.specs.declared.cause.LedgerCause.{LedgerCause}
 use Rattle.register.specs.declared.cause.LedgerCause.TheVariants.{NoRoom, OutsideLimits}
-use Rattle.register.specs.declared.fault.BookFault.{BookFault}
 use Rattle.register.specs.declared.fault.LedgerFault.{LedgerFault}
-use Rattle.register.specs.declared.fault.ReaderFault.{ReaderFault}
+use Rattle.register.specs.declared.fault.Placed.{Placed}
 use Rattle.register.specs.declared.fault.Fault.{Fault}
 use Rattle.register.specs.declared.fault.Fault.TheVariants.{Reader, Book, Ledger}
 use Rattle.register.specs.declared.fault.Part.{Part}
@@ -30,6 +29,13 @@ by_book n place = record { part = B; number = n; place = place; height = None }
 
 abbrev pub by_ledger : ℕ → ℕ → ℕ → Refusal
 by_ledger n place height = record { part = L; number = n; place = place; height = Some height }
+
+-- a refusal of the reader, and one of the book: a cause of that part, and its place
+abbrev pub ReaderFault : Type 0
+ReaderFault = Placed ReaderCause
+
+abbrev pub BookFault : Type 0
+BookFault = Placed BookCause
 
 -- the numbers of the causes
 abbrev pub reader_number : ReaderCause → ℕ

@@ -1,114 +1,60 @@
-//! The causes of refusals, one enum for each part of the engine and one case for each number of the register.
-ghost use Rattle.std.specs.Prelude.{◌≡◌};
-ghost use Rattle.register.specs.Register.{reader_number, book_number, ledger_number};
+//! The causes of refusals, one enum for each part of the engine. Each case has its number in the register.
 
 /// Why the reader refuses a line or the whole input.
 #[derive(Clone, Copy)]
 pub enum ReaderCause {
     /// A word is not of the kind that its place in the line asks for, or a code is not in the currency table.
-    UnreadableWord,
+    UnreadableWord = 19,
     /// A line has too many words, an unknown first word or a wrong number of words.
-    UnknownPattern,
+    UnknownPattern = 20,
     /// The input is longer than the runner takes.
-    InputTooLong,
+    InputTooLong = 22,
 }
 
 /// Why the book refuses a call.
 #[derive(Clone, Copy)]
 pub enum BookCause {
     /// A cell of the exchange account or the docket account was not zero when the book was opened.
-    Unfit,
+    Unfit = 1,
     /// A currency's number is above 11.
-    UnknownCurrency,
+    UnknownCurrency = 2,
     /// A conversion has the same currency on both sides.
-    EqualCurrencies,
+    EqualCurrencies = 3,
     /// An account is not one of the named accounts.
-    AccountNotNamed,
+    AccountNotNamed = 4,
     /// An amount is 0 where it may not be, negative where it may not be, or too large.
-    AmountOutOfRange,
+    AmountOutOfRange = 5,
     /// A post has too few or too many legs.
-    LegCount,
+    LegCount = 6,
     /// A currency's legs do not sum to zero.
-    Unbalanced,
+    Unbalanced = 7,
     /// A split has no shares or too many, too large a weight, or no weight at all.
-    Shares,
+    Shares = 8,
     /// A conversion would book more than the largest amount.
-    BookedTooMuch,
+    BookedTooMuch = 9,
     /// The docket has no room for another record.
-    DocketFull,
+    DocketFull = 10,
     /// The last slip number is given.
-    SlipsExhausted,
+    SlipsExhausted = 11,
     /// A slip bears another book's mark, or its number is not on the docket as out.
-    ForeignSlip,
+    ForeignSlip = 12,
     /// A number is not on the docket.
-    NotOnDocket,
+    NotOnDocket = 13,
     /// A number is on the docket as out, and not as parked.
-    SlipIsOut,
+    SlipIsOut = 14,
     /// A sweep would move nothing.
-    NothingToSweep,
+    NothingToSweep = 15,
     /// A column is not a fraction column.
-    NotAFractionColumn,
+    NotAFractionColumn = 16,
     /// A list handed in is too short for the shares or the fractions of a split.
-    ListsTooShort,
+    ListsTooShort = 21,
 }
 
 /// Why a ledger refuses an entry.
 #[derive(Clone, Copy)]
 pub enum LedgerCause {
     /// The entry has more legs than the ledger has room.
-    NoRoom,
+    NoRoom = 17,
     /// A leg would leave its cell below its floor or above its ceiling.
-    OutsideLimits,
-}
-
-impl ReaderCause {
-    /// The number under which the register has the cause.
-    pub(crate) fn number(self) -> u8
-        ensures { result ≡ reader_number self }
-    {
-        match self {
-            ReaderCause::UnreadableWord => 19,
-            ReaderCause::UnknownPattern => 20,
-            ReaderCause::InputTooLong => 22,
-        }
-    }
-}
-
-impl BookCause {
-    /// The number under which the register has the cause.
-    pub(crate) fn number(self) -> u8
-        ensures { result ≡ book_number self }
-    {
-        match self {
-            BookCause::Unfit => 1,
-            BookCause::UnknownCurrency => 2,
-            BookCause::EqualCurrencies => 3,
-            BookCause::AccountNotNamed => 4,
-            BookCause::AmountOutOfRange => 5,
-            BookCause::LegCount => 6,
-            BookCause::Unbalanced => 7,
-            BookCause::Shares => 8,
-            BookCause::BookedTooMuch => 9,
-            BookCause::DocketFull => 10,
-            BookCause::SlipsExhausted => 11,
-            BookCause::ForeignSlip => 12,
-            BookCause::NotOnDocket => 13,
-            BookCause::SlipIsOut => 14,
-            BookCause::NothingToSweep => 15,
-            BookCause::NotAFractionColumn => 16,
-            BookCause::ListsTooShort => 21,
-        }
-    }
-}
-
-impl LedgerCause {
-    /// The number under which the register has the cause.
-    pub(crate) fn number(self) -> u8
-        ensures { result ≡ ledger_number self }
-    {
-        match self {
-            LedgerCause::NoRoom => 17,
-            LedgerCause::OutsideLimits => 18,
-        }
-    }
+    OutsideLimits = 18,
 }

@@ -6,19 +6,18 @@ ghost use Rattle.register.specs.Register.{registered, part_text, refusal_text};
 use crate::cause::{BookCause, LedgerCause, ReaderCause};
 use std::fmt;
 
-/// A refusal of the reader. The place is a column of the line in bytes, from 1, or 0.
+/// Why a part refuses, and where.
 #[derive(Clone, Copy)]
-pub struct ReaderFault {
-    pub cause: ReaderCause,
+pub struct Placed<C> {
+    pub cause: C,
     pub place: usize,
 }
 
+/// A refusal of the reader. The place is a column of the line in bytes, from 1, or 0.
+pub type ReaderFault = Placed<ReaderCause>;
+
 /// A refusal of the book. The place is a leg or a share, from 1, a currency's number, or 0.
-#[derive(Clone, Copy)]
-pub struct BookFault {
-    pub cause: BookCause,
-    pub place: usize,
-}
+pub type BookFault = Placed<BookCause>;
 
 /// A refusal of a ledger. The place is a leg, from 1, or 0; the height says how many ledgers stand below
 /// the one that refuses.
@@ -43,6 +42,37 @@ pub enum Part {
     Reader,
     Book,
     Ledger,
+}
+
+impl<C> Placed<C> {
+    /// A refusal at a place.
+    pub fn at(cause: C, place: usize) -> Placed<C>
+        ensures { result ≡ record { cause = cause; place = place } }
+    {
+        Placed { cause, place }
+    }
+}
+
+/// A refusal that no leg, share, currency or column is the place of.
+impl<C> From<C> for Placed<C> {
+    ghost from_gives = { λ cause r. r ≡ record { cause = cause; place = 0 } };
+
+    fn from(cause: C) -> Placed<C> {
+        Placed::at(cause, 0)
+    }
+}
+
+/// A refusal of a ledger that no leg is the place of, and below which no ledger stands.
+impl From<LedgerCause> for LedgerFault {
+    ghost from_gives = { λ cause r. r ≡ record { cause = cause; place = 0; height = 0 } };
+
+    fn from(cause: LedgerCause) -> LedgerFault {
+        LedgerFault {
+            cause,
+            place: 0,
+            height: 0,
+        }
+    }
 }
 
 impl From<ReaderFault> for Fault {
@@ -87,9 +117,9 @@ impl Fault {
         ensures { result ≡ (registered self).number }
     {
         match self {
-            Fault::Reader(fault) => fault.cause.number(),
-            Fault::Book(fault) => fault.cause.number(),
-            Fault::Ledger(fault) => fault.cause.number(),
+            Fault::Reader(fault) => fault.cause as u8,
+            Fault::Book(fault) => fault.cause as u8,
+            Fault::Ledger(fault) => fault.cause as u8,
         }
     }
 

@@ -6,5 +6,5 @@ mod fault;
 mod laws;
 
 pub use cause::{BookCause, LedgerCause, ReaderCause};
-pub use fault::{BookFault, Fault, LedgerFault, Part, ReaderFault};
+pub use fault::{BookFault, Fault, LedgerFault, Part, Placed, ReaderFault};
 pub use laws::register_names_each_fault;

@@ -1,6 +1,6 @@
 -- Assumes nothing.
 use Rattle.std.proofs.Common.{◌≡◌, ℕ, Ok, Err, sym, ap, ◌∙◌, arith}
-use Rattle.register.specs.declared.fault.BookFault.{BookFault}
+use Rattle.register.specs.Register.{BookFault}
 use Rattle.register.specs.Register.{book_answer}
 use Rattle.apportion.specs.Refusals.{some_weight}
 use Rattle.apportion.specs.Splits.{weight_at, all_weights}
