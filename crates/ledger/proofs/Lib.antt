@@ -4,4 +4,5 @@ pub mod Conserving
 pub mod Meanings
 pub mod Rises
 pub mod Walk
+pub mod Reading
 mod Widths

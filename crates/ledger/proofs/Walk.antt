@@ -4,7 +4,7 @@ use Rattle.std.proofs.lemmas.List.{at_drop_more, at_drop_all}
 use Rattle.std.proofs.lemmas.Bool.{cond-true, cond-false, lt-ltb, le-ltb, ltb-false}
 use Rattle.register.specs.Register.{Refusal, by_ledger}
 use Rattle.ledger.specs.declared.leg.Leg.{Leg}
-use Rattle.ledger.specs.Meaning.{Meaning, entered, fits, stops, verdict}
+use Rattle.ledger.specs.Meaning.{Meaning, entered, fits, stops, roomy, verdict}
 use Rattle.ledger.proofs.Meanings.{entered_none, entered_more}
 
 -- the walk from leg i on, the first i having been entered
@@ -40,6 +40,18 @@ cond_taken false r f e = absurd (let z : ◌≡◌ {A = ℕ} 0 1 = cc in omega a
 cond_passed : (b : Bool) (r : Result (Unit {0}) Refusal) (f : Refusal) → cond b (Err f) r ≡ Ok tt → (b ≡ false) × (r ≡ Ok tt)
 cond_passed false r f e = (refl, e)
 cond_passed true r f e = absurd (let z : ◌≡◌ {A = ℕ} 0 1 = cc in omega arith)
+
+-- there is room, or the verdict is the refusal for want of it
+pub room_suffices : (m : Meaning) (ls : List Leg) → roomy m ls ≡ Ok tt → length ls ≤ m.room
+room_suffices m ls e = ltb-false _ _ (cond_passed _ _ _ e).0
+
+cond_refused : (b : Bool) (e f : Refusal) (taken r : Result (Unit {0}) Refusal) → taken ≡ Ok tt → cond b (Err e) taken ≡ Err f → cond b (Err e) r ≡ Err f
+cond_refused true e f taken r ok h = h
+cond_refused false e f taken r ok h = absurd (let z : ◌≡◌ {A = ℕ} 0 1 = cc in omega arith)
+
+pub room_refused : (m : Meaning) (ls : List Leg) (f : Refusal) → roomy m ls ≡ Err f → verdict m ls ≡ Err f
+unfolding verdict
+room_refused m ls f e = cond_refused _ _ f (Ok tt) (stops m 1 ls) refl e
 
 pub left_step : (m : Meaning) (ls : List Leg) (i : ℕ) (d : Leg) → i < length ls → left m ls i ≡ Ok tt → (fits (entered m (take (i + 1) ls)) (get_or ls i d) ≡ true) × (left m ls (i + 1) ≡ Ok tt)
 left_step m ls i d h e = cond_taken _ _ _ (sym (left_more m ls i d h) ∙ e)

@@ -39,6 +39,10 @@ unfoldable pub stops : Meaning → ℕ → List Leg → Result (Unit {0}) Refusa
 stops m n [] = Ok tt
 stops m n (l ∷ ls) = cond (fits (entered m (l ∷ [])) l) (stops (entered m (l ∷ [])) (n + 1) ls) (Err (by_ledger 18 n 0))
 
+-- whether there is room for the legs: refused 17 if not
+abbrev pub roomy : Meaning → List Leg → Result (Unit {0}) Refusal
+roomy m ls = cond (nat_lt m.room (length ls)) (Err (by_ledger 17 0 0)) (Ok tt)
+
 -- whether the legs are taken: 17 if they are more than the room, else 18 at the leg that stops them
 unfoldable pub verdict : Meaning → List Leg → Result (Unit {0}) Refusal
 verdict m ls = cond (nat_lt m.room (length ls)) (Err (by_ledger 17 0 0)) (stops m 1 ls)

@@ -1,34 +1,17 @@
 //! Which legs make an entry.
 ghost use Rattle.std.specs.Prelude.{◌≡◌};
-ghost use Rattle.ledger.specs.Entries.{in_range, all_in_range, zero_at_each, is_zero, is_entry};
+ghost use Rattle.ledger.specs.Entries.{all_in_range, zero_at_each, is_zero, is_entry};
 ghost use Rattle.ledger.specs.Legs.{column_sum};
 
 use crate::entry::MOST_LEGS;
 use crate::leg::Leg;
 use crate::sums::column_sum;
-use money::MOST_AMOUNT;
-
-/// The last account.
-pub const MOST_ACCOUNT: u8 = 127;
-
-/// The last column.
-pub const MOST_COLUMN: u8 = 33;
-
-/// Whether account, column and amount are in range.
-fn in_range(leg: Leg) -> bool
-    ensures { result ≡ in_range leg }
-{
-    leg.account <= MOST_ACCOUNT
-        && leg.column <= MOST_COLUMN
-        && leg.amount >= -MOST_AMOUNT
-        && leg.amount <= MOST_AMOUNT
-}
 
 fn all_in_range(legs: &[Leg]) -> bool
     ensures { result ≡ all_in_range legs.now }
 {
     for leg in legs {
-        if !in_range(*leg) {
+        if !leg.is_in_range() {
             return false;
         }
     }

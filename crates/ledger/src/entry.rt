@@ -1,8 +1,9 @@
 //! A balanced list of legs, which a ledger takes whole or not at all.
-ghost use Rattle.std.specs.Prelude.{◌≡◌, ◌≤◌, true, take};
-ghost use Rattle.ledger.specs.Entries.{most_legs, is_entry};
+ghost use Rattle.std.specs.Prelude.{◌≡◌, true};
+ghost use Rattle.ledger.specs.Entries.{is_entry};
 
 use crate::leg::Leg;
+use arrayvec::ArrayVec;
 
 mod make;
 
@@ -12,7 +13,6 @@ pub const MOST_LEGS: usize = 16;
 /// At most 16 legs, each in range, that sum to zero in every column.
 #[derive(Drop)]
 pub struct Entry {
-    legs: [Leg; MOST_LEGS],
-    len: usize,
-    ghost ok: { (len ≤ most_legs) × (is_entry (take len legs) ≡ true) },
+    legs: ArrayVec<Leg, MOST_LEGS>,
+    ghost ok: { is_entry legs.items ≡ true },
 }

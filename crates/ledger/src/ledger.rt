@@ -9,20 +9,17 @@ ghost use Rattle.ledger.specs.Meaning.{Meaning, row_of, verdict, after};
 use crate::entry::Entry;
 use crate::limits::ROW_CELLS;
 use register::LedgerFault;
+use std::array;
 
 /// What can be asked of a ledger. A question changes nothing.
 pub trait Balances {
     /// The letter of the ledger's type.
     const KIND: char;
 
-    // no clause can name the constant of a bound, so the letter stands here once more
-    ghost letter: { ℕ };
+    // the same, where a clause names it
+    ghost KIND: { ℕ };
 
     ghost meaning: { Self → Meaning };
-
-    /// The letter of the ledger's type, `KIND`.
-    fn kind_letter(&self) -> char
-        ensures { result ≡ letter };
 
     /// How many more legs the ledger takes.
     fn room(&self) -> u64
@@ -37,11 +34,7 @@ pub trait Balances {
     fn row(&self, account: u64) -> [i64; ROW_CELLS]
         ensures { result ≡ row_of (meaning self.now) account }
     {
-        let mut row = [0; ROW_CELLS];
-        for i in 0..ROW_CELLS {
-            row[i] = self.cell(account, i as u64);
-        }
-        row
+        array::from_fn(|column| self.cell(account, column as u64))
     }
 
     /// The least that the cell may hold; 0 outside the accounts and columns.

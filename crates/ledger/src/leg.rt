@@ -2,10 +2,17 @@
 ghost use Rattle.std.specs.Prelude.{◌≡◌};
 ghost use Rattle.money.specs.Table.{number_of};
 ghost use Rattle.ledger.specs.Columns.{fraction_number};
+ghost use Rattle.ledger.specs.Entries.{in_range};
 ghost use Rattle.ledger.specs.Legs.{leg};
 
 use crate::column::FractionColumn;
-use money::{Currency, Minor, Parts};
+use money::{Currency, MOST_AMOUNT, Minor, Parts};
+
+/// The last account.
+pub const MOST_ACCOUNT: u8 = 127;
+
+/// The last column.
+pub const MOST_COLUMN: u8 = 33;
 
 /// A cell, by account and column, and what it grows by: plus is debit.
 #[derive(Clone, Copy, Default)]
@@ -36,5 +43,15 @@ impl Leg {
             column: column.number(),
             amount: parts.0,
         }
+    }
+
+    /// Whether account, column and amount are a leg's of an entry.
+    pub fn is_in_range(self) -> bool
+        ensures { result ≡ in_range self }
+    {
+        self.account <= MOST_ACCOUNT
+            && self.column <= MOST_COLUMN
+            && self.amount >= -MOST_AMOUNT
+            && self.amount <= MOST_AMOUNT
     }
 }

@@ -2,7 +2,7 @@
 ghost use Rattle.std.specs.Prelude.{◌≡◌, ◌&&◌, int_le};
 ghost use Rattle.register.specs.Register.{ledger_answer};
 ghost use Rattle.ledger.specs.Held.{legs_of};
-ghost use Rattle.ledger.specs.Meaning.{verdict};
+ghost use Rattle.ledger.specs.Meaning.{roomy, verdict};
 
 use crate::entry::Entry;
 use crate::ledger::Balances;
@@ -16,21 +16,25 @@ fn within(number: i128, floor: i64, ceiling: i64) -> bool
     floor as i128 <= number && number <= ceiling as i128
 }
 
+/// Whether the ledger has room for every leg of the entry, or its refusal.
+pub fn check_room<B: Balances>(ledger: &B, entry: &Entry) -> Result<(), LedgerFault>
+    ensures { ledger_answer result ≡ roomy (B.Balances.meaning ledger.now) (legs_of entry.now) }
+{
+    if ledger.room() < entry.legs().len() as u64 {
+        return Err(LedgerCause::NoRoom.into());
+    }
+    Ok(())
+}
+
 /// The refusal that the ledger has for the entry, if it has one. Nothing is written.
 pub fn check<B: Balances>(ledger: &B, entry: &Entry) -> Result<(), LedgerFault>
     ensures { ledger_answer result ≡ verdict (B.Balances.meaning ledger.now) (legs_of entry.now) }
 {
+    check_room(ledger, entry)?;
     let legs = entry.legs();
-    if ledger.room() < legs.len() as u64 {
-        return Err(LedgerFault {
-            cause: LedgerCause::NoRoom,
-            place: 0,
-            height: 0,
-        });
-    }
-    for i in 0..legs.len() {
-        let account = legs[i].account as u64;
-        let column = legs[i].column as u64;
+    for (i, leg) in legs.iter().enumerate() {
+        let account = leg.account as u64;
+        let column = leg.column as u64;
         let next = ledger.cell(account, column) as i128 + rise(&legs[0..i + 1], account, column);
         if !within(
             next,

@@ -1,18 +1,13 @@
 //! Making entries, and reading their legs.
-ghost use Rattle.std.specs.Prelude.{◌≡◌, [], if◌then◌else◌, Decides};
+ghost use Rattle.std.specs.Prelude.{◌≡◌, [], Some, None, is_some, if◌then◌else◌, Decides};
+ghost use Rattle.std.specs.Option.{option_map};
 ghost use Rattle.ledger.specs.Entries.{EntryLegs, is_entry};
 ghost use Rattle.ledger.specs.Held.{legs_of};
 
-use super::{Entry, MOST_LEGS};
+use super::Entry;
 use crate::balance::is_entry;
 use crate::leg::Leg;
-
-/// What stands where an entry has no leg.
-const BLANK: Leg = Leg {
-    account: 0,
-    column: 0,
-    amount: 0,
-};
+use arrayvec::ArrayVec;
 
 impl Entry {
     /// The entry without legs.
@@ -20,31 +15,21 @@ impl Entry {
         ensures { legs_of result ≡ [] }
     {
         Entry {
-            legs: [BLANK; MOST_LEGS],
-            len: 0,
+            legs: ArrayVec::new(),
         }
     }
 
-    /// Puts these legs in the place of the entry's and says yes, exactly if they make an entry; else leaves the
-    /// empty entry.
-    pub fn make(&mut self, legs: &[Leg]) -> bool
-        ensures tells { Decides result (EntryLegs legs.now) }
-        ensures value { result ≡ is_entry legs.now }
-        ensures holds { legs_of self.new ≡ (if result then legs.now else []) }
+    /// The entry of these legs, exactly if they make one.
+    pub fn new(legs: &[Leg]) -> Option<Entry>
+        ensures tells { Decides (is_some result) (EntryLegs legs.now) }
+        ensures value { option_map legs_of result ≡ (if is_entry legs.now then Some legs.now else None) }
     {
         if !is_entry(legs) {
-            *self = Entry::empty();
-            return false;
+            return None;
         }
-        let mut stored = [BLANK; MOST_LEGS];
-        for i in 0..legs.len() {
-            stored[i] = legs[i];
-        }
-        *self = Entry {
-            legs: stored,
-            len: legs.len(),
-        };
-        true
+        let mut stored = ArrayVec::new();
+        stored.try_extend_from_slice(legs).ok()?;
+        Some(Entry { legs: stored })
     }
 
     /// The legs, in order. They make an entry.
@@ -52,6 +37,6 @@ impl Entry {
         ensures value { result.now ≡ legs_of self.now }
         ensures lawful { EntryLegs result.now }
     {
-        &self.legs[0..self.len]
+        self.legs.as_slice()
     }
 }

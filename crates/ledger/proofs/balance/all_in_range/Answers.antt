@@ -5,14 +5,14 @@ use Rattle.ledger.specs.Legs.{leg}
 use Rattle.ledger.proofs.Entries.{range_more, range_all}
 use Rattle.ledger.proofs.balance.all_in_range.Goals as goal
 
-pub returns-then-not-in_range : goal.returns-then-not-in_range
-returns-then-not-in_range c =
-    sym (ap (λ b. b && all_in_range (drop (c.loop-leg.leg-index + 1) c.args.legs.now)) (sym c.in_range.ensures ∙ c.if-not-in_range.true))
+pub returns-then-not-is_in_range : goal.returns-then-not-is_in_range
+returns-then-not-is_in_range c =
+    sym (ap (λ b. b && all_in_range (drop (c.loop-leg.leg-index + 1) c.args.legs.now)) (sym c.is_in_range.ensures ∙ c.if-not-is_in_range.true))
     ∙ sym (range_more c.args.legs.now c.loop-leg.leg-index (leg 0 0 (pos 0)) c.loop-leg-test.true) ∙ c.loop-leg.invariant
 
 pub loop-leg-preserved : goal.loop-leg-preserved
 loop-leg-preserved c =
-    sym (ap (λ b. b && all_in_range (drop (c.loop-leg.leg-index + 1) c.args.legs.now)) (sym c.in_range.ensures ∙ c.if-not-in_range.false))
+    sym (ap (λ b. b && all_in_range (drop (c.loop-leg.leg-index + 1) c.args.legs.now)) (sym c.is_in_range.ensures ∙ c.if-not-is_in_range.false))
     ∙ sym (range_more c.args.legs.now c.loop-leg.leg-index (leg 0 0 (pos 0)) c.loop-leg-test.true) ∙ c.loop-leg.invariant
 
 pub returns : goal.returns

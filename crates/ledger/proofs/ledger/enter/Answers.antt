@@ -7,5 +7,5 @@ pub returns : goal.returns
 returns g c = record {
   refused = c.take.ensures.refused;
   meaning = c.take.ensures.meaning;
-  conserved = conserves _ _ _ _ (entry_legs_lem _ c.args.entry.now.ok.1) c.take.ensures.refused c.take.ensures.meaning;
+  conserved = conserves _ _ _ _ (entry_legs_lem _ c.args.entry.now.ok) c.take.ensures.refused c.take.ensures.meaning;
 }

@@ -1,16 +1,16 @@
 -- The loop is the walk over the legs. Assumes nothing.
-use Rattle.std.proofs.Common.{◌≡◌, ◌+◌, ◌-◌, ◌<◌, ◌≤◌, ◌&&◌, length, get_or, take, pos, ◌+ℤ◌, sym, ap, ◌∙◌, arith, w64, to_z, of_z}
+use Rattle.std.proofs.Common.{◌≡◌, ◌+◌, ◌-◌, ◌≤◌, ◌&&◌, length, get_or, take, pos, ◌+ℤ◌, sym, ap, ◌∙◌, arith, w64, to_z, of_z, rules}
 use lib.Signed.{le_z}
 use Rattle.std.proofs.lemmas.List.{length-take}
 use Rattle.std.proofs.lemmas.Bool.{cond-true}
 use Rattle.ledger.specs.Entries.{most_legs}
 use Rattle.ledger.specs.Legs.{leg, rise}
-use Rattle.ledger.specs.Meaning.{fits, entered, verdict}
-use Rattle.ledger.proofs.Walk.{left_more, verdict_room, verdict_stopped, verdict_walked}
+use Rattle.ledger.specs.Meaning.{fits, entered, roomy, verdict}
+use Rattle.ledger.proofs.Walk.{left_more, room_suffices, room_refused, verdict_stopped, verdict_walked}
 use Rattle.ledger.proofs.Widths.{read_back, sum_back}
 use Rattle.ledger.proofs.verdict.check.Given as given
 use Rattle.ledger.proofs.verdict.check.Goals as goal
-use Rattle.ledger.proofs.verdict.check.Goals.{After-within}
+use Rattle.ledger.proofs.verdict.check.Goals.{After-within, After-legs-legs}
 
 -- what `within` says is whether the leg's cell is within its limits
 told : (g : given.Over) (c : After-within g) → fits (entered (g.B.Balances.meaning c.args.ledger.now) (take (c.loop-i.i + 1) c.legs-legs.result.now)) (get_or c.legs-legs.result.now c.loop-i.i (leg 0 0 (pos 0))) ≡ c.within.result
@@ -27,20 +27,23 @@ told g c =
     let high : to_z w64 (of_z w64 c.ceiling.result) ≡ m.ceiling l.account l.column = read_back c.ceiling.result c.ceiling.type_inv ∙ c.ceiling.ensures.value in
     sym (c.within.ensures ∙ (λ i. le_z (low i) (next i) && le_z (next i) (high i)))
 
-pub returns-then-room-legs : goal.returns-then-room-legs
-returns-then-room-legs g c =
+pub returns-in_err-check_room : goal.returns-in_err-check_room
+returns-in_err-check_room g c =
+    let l = room_refused (g.B.Balances.meaning c.args.ledger.now) _ _ (sym c.in_err-check_room.ensures) in
+    search rules
+
+-- the room suffices for the legs
+enough : (g : given.Over) (c : After-legs-legs g) → length c.legs-legs.result.now ≤ (g.B.Balances.meaning c.args.ledger.now).room
+enough g c =
     let m = g.B.Balances.meaning c.args.ledger.now in
-    let ls = c.legs-legs.result.now in
-    let short : m.room < length ls = omega (arith, c.room.ensures, c.if-room-legs.true) in
-    sym (verdict_room m ls short) ∙ ap (verdict m) c.legs-legs.ensures.value
+    room_suffices m c.legs-legs.result.now (ap (roomy m) c.legs-legs.ensures.value ∙ sym c.in_ok-check_room.ensures)
 
 pub returns-then-not-within : goal.returns-then-not-within
 returns-then-not-within g c =
     let m = g.B.Balances.meaning c.args.ledger.now in
     let ls = c.legs-legs.result.now in
-    let enough : length ls ≤ m.room = omega (arith, c.room.ensures, c.if-room-legs.false) in
     let out = told g (goal.at.returns-then-not-within g c).After-within ∙ c.if-not-within.true in
-    verdict_stopped m ls c.loop-i.i (leg 0 0 (pos 0)) enough c.loop-i-test.true c.loop-i.invariant out ∙ ap (verdict m) c.legs-legs.ensures.value
+    verdict_stopped m ls c.loop-i.i (leg 0 0 (pos 0)) (enough g (goal.at.returns-then-not-within g c).After-legs-legs) c.loop-i-test.true c.loop-i.invariant out ∙ ap (verdict m) c.legs-legs.ensures.value
 
 pub loop-i-preserved : goal.loop-i-preserved
 loop-i-preserved g c =
@@ -53,5 +56,4 @@ pub returns : goal.returns
 returns g c =
     let m = g.B.Balances.meaning c.args.ledger.now in
     let ls = c.legs-legs.result.now in
-    let enough : length ls ≤ m.room = omega (arith, c.room.ensures, c.if-room-legs.false) in
-    verdict_walked m ls c.loop-i.i enough c.loop-i-test.false c.loop-i.invariant ∙ ap (verdict m) c.legs-legs.ensures.value
+    verdict_walked m ls c.loop-i.i (enough g (goal.at.returns g c).After-legs-legs) c.loop-i-test.false c.loop-i.invariant ∙ ap (verdict m) c.legs-legs.ensures.value
