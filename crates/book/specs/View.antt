@@ -1,7 +1,5 @@
 -- What a book means to the model, and how its answers read there. Assumes nothing.
 use Rattle.std.specs.Prelude.{ℕ, List, Ok, Err, Result}
-use Rattle.register.specs.declared.cause.BookCause.{BookCause}
-use Rattle.register.specs.Register.{BookFault}
 use Rattle.register.specs.declared.fault.Fault.{Fault}
 use Rattle.register.specs.Register.{Refusal, registered}
 use Rattle.money.specs.declared.quantity.Minor.{Minor}
@@ -16,7 +14,7 @@ use Rattle.book.specs.declared.slip.Slip.{Slip}
 abbrev pub state_of : {L : Type 0} → Balances L → Book L → State
 state_of l b = record {
   ledger = l.meaning b.ledger;
-  kind = l.letter;
+  kind = l.KIND;
   fit = b.fit;
   mark = b.mark;
   given = b.given;
@@ -26,10 +24,6 @@ state_of l b = record {
 -- the slip of that mark and number
 abbrev pub slip_of : ℕ → ℕ → Slip
 slip_of mark number = record { mark = mark; number = number }
-
--- a refusal of the book without a place
-abbrev pub book_fault : BookCause → BookFault
-book_fault cause = record { cause = cause; place = 0 }
 
 -- a take-up answers a slip, and the model its number
 abbrev pub slip_answer : Result Slip Fault → Result ℕ Refusal

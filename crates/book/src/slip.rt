@@ -43,8 +43,9 @@ impl Slip {
         ensures step { (Ok result, state_of L.Balances book.new) ≡ step (state_of L.Balances book.old) (park self.mark self.number) }
         ensures law { StillConserved (state_of L.Balances book.old) (park self.mark self.number) (Ok result) (state_of L.Balances book.new) }
     {
-        let Slip { mark, number } = self;
-        book.park_number(mark, number)
+        let parked = book.park_slip(&self);
+        let Slip { mark: _, number: _ } = self;
+        parked
     }
 
     /// Carries the residues to a named account and ends the slip; a refusal hands it back.
@@ -53,7 +54,7 @@ impl Slip {
         ensures law { StillConserved (state_of L.Balances book.old) (carry self.mark self.number account) (carry_answer result) (state_of L.Balances book.new) }
         ensures back { IfErr result (λ b. b.0 ≡ self) }
     {
-        match book.carry_number(self.mark, self.number, account) {
+        match book.carry_slip(&self, account) {
             Ok(()) => {
                 let Slip { mark: _, number: _ } = self;
                 Ok(())

@@ -68,7 +68,7 @@ fn show_split<R: TieRule>(
     let mut portions = [Minor(0); MOST_SHARES];
     let mut fractions = [Fraction(0); MOST_SHARES];
     if let Err(fault) = apportion(rule, amount, shares, &mut portions, &mut fractions) {
-        let fault = Fault::Book(fault);
+        let fault = Fault::from(fault);
         return println!(rt; "    refused: {fault}");
     }
     for (share, (portion, fraction)) in shares.iter().zip(portions.iter().zip(fractions.iter())) {

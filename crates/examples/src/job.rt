@@ -19,12 +19,6 @@ const FRF: u64 = 4;
 
 const ITL: u64 = 6;
 
-const BLANK: Leg = Leg {
-    account: 0,
-    column: 0,
-    amount: 0,
-};
-
 /// The three guests who share the hotel bill.
 const GUESTS: [Share; 3] = [
     Share {
@@ -143,7 +137,7 @@ fn show_vouchers<L: Ledger>(rt: &HostRuntime, book: &mut Book<L>) -> io::Result<
 /// A line that cannot be read, a call that the book refuses, and an entry that finds no room.
 fn show_refusals<L: Ledger>(rt: &HostRuntime, book: &mut Book<L>) -> io::Result<()> {
     if let Err(fault) = read_line(b"conv 10 20 DEM XXX 10000") {
-        let fault = Fault::Reader(fault);
+        let fault = Fault::from(fault);
         println!(rt; "  line refused: {fault}")?;
     }
     show_conversion(rt, book, DEM, DEM, 10_000)?;
@@ -153,7 +147,7 @@ fn show_refusals<L: Ledger>(rt: &HostRuntime, book: &mut Book<L>) -> io::Result<
 /// Opens a book over a journal of 52 records, does the job and prints the audit.
 pub(crate) fn show(rt: &HostRuntime) -> anyhow::Result<()> {
     println!(rt; "A job on a book over a journal")?;
-    let mut records = [BLANK; 52];
+    let mut records = [Leg::default(); 52];
     let mut book = Book::open(Journal::open(&mut records), 1999);
     let done = show_job(rt, &mut book);
     let _journal = book.close();

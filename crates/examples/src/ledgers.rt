@@ -5,13 +5,8 @@ use ledger::{Balances, Entry, FractionColumn, Ledger, Leg, enter};
 use money::{MOST_AMOUNT, Minor, National, Parts};
 use register::Fault;
 use sheet::Sheet;
+use std::array;
 use std::io;
-
-const BLANK: Leg = Leg {
-    account: 0,
-    column: 0,
-    amount: 0,
-};
 
 /// The legs of 100 marks converted into euro, residue and all.
 fn conversion() -> [Leg; 6] {
@@ -30,10 +25,7 @@ fn conversion() -> [Leg; 6] {
 fn largest() -> [Leg; 16] {
     let debit = Leg::money(10, EUR, Minor(MOST_AMOUNT));
     let credit = Leg::money(20, EUR, Minor(-MOST_AMOUNT));
-    [
-        debit, credit, debit, credit, debit, credit, debit, credit, debit, credit, debit, credit,
-        debit, credit, debit, credit,
-    ]
+    array::from_fn(|i| if i % 2 == 0 { debit } else { credit })
 }
 
 /// Two legs that any ledger has room for, and then the largest amount once more.
@@ -48,14 +40,13 @@ fn one_more() -> [Leg; 4] {
 
 /// Has a ledger take the legs, and prints its answer and the cells that they name.
 fn show_taking<L: Ledger>(rt: &HostRuntime, ledger: &mut L, legs: &[Leg]) -> io::Result<()> {
-    let mut entry = Entry::empty();
-    if !entry.make(legs) {
+    let Some(entry) = Entry::new(legs) else {
         return println!(rt; "    no entry");
-    }
+    };
     match enter(ledger, &entry) {
         Ok(()) => println!(rt; "    took {} legs, room {}", legs.len(), ledger.room())?,
         Err(fault) => {
-            let fault = Fault::Ledger(fault);
+            let fault = Fault::from(fault);
             println!(rt; "    refused: {fault}, room {}", ledger.room())?;
         }
     }
@@ -71,8 +62,9 @@ fn show_taking<L: Ledger>(rt: &HostRuntime, ledger: &mut L, legs: &[Leg]) -> io:
 
 /// Takes the largest amounts until the ledger refuses, and answers how many entries it took.
 fn fill<L: Ledger>(ledger: &mut L) -> u32 {
-    let mut entry = Entry::empty();
-    let _ = entry.make(&largest());
+    let Some(entry) = Entry::new(&largest()) else {
+        return 0;
+    };
     for taken in 0..2_000 {
         if enter(ledger, &entry).is_err() {
             return taken;
@@ -83,7 +75,7 @@ fn fill<L: Ledger>(ledger: &mut L) -> u32 {
 
 /// Takes a conversion, fills two cells up to their limits, and is refused one leg more.
 fn show_ledger<L: Ledger>(rt: &HostRuntime, ledger: &mut L) -> io::Result<()> {
-    println!(rt; "  ledger {}, room {}", ledger.kind_letter(), ledger.room())?;
+    println!(rt; "  ledger {}, room {}", L::KIND, ledger.room())?;
     show_taking(rt, ledger, &conversion())?;
     let taken = fill(ledger);
     println!(rt; "    {taken} entries of the largest amounts")?;
@@ -95,10 +87,10 @@ pub(crate) fn show(rt: &HostRuntime) -> anyhow::Result<()> {
     println!(rt; "The same entries into a sheet and a journal")?;
     let mut cells = vec![in rt.alloc(); 0i64; 4_352]?;
     show_ledger(rt, &mut Sheet::open(cells.as_mut_slice(), 20_010))?;
-    let mut records = vec![in rt.alloc(); BLANK; 20_010]?;
+    let mut records = vec![in rt.alloc(); Leg::default(); 20_010]?;
     show_ledger(rt, &mut Journal::open(records.as_mut_slice()))?;
     println!(rt; "A journal of five records and one of six")?;
-    show_taking(rt, &mut Journal::open(&mut [BLANK; 5]), &conversion())?;
-    show_taking(rt, &mut Journal::open(&mut [BLANK; 6]), &conversion())?;
+    show_taking(rt, &mut Journal::open(&mut [Leg::default(); 5]), &conversion())?;
+    show_taking(rt, &mut Journal::open(&mut [Leg::default(); 6]), &conversion())?;
     Ok(())
 }

@@ -8,12 +8,6 @@ use register::Fault;
 use requests::{carry_number, convert_and_park};
 use std::io;
 
-const BLANK: Leg = Leg {
-    account: 0,
-    column: 0,
-    amount: 0,
-};
-
 fn exchange(source: u64, target: u64, amount: i64) -> Exchange {
     Exchange {
         from: 10,
@@ -24,86 +18,86 @@ fn exchange(source: u64, target: u64, amount: i64) -> Exchange {
     }
 }
 
-/// The number of the refusal, or 0 where there is none.
-fn refusal<T: Drop>(answer: Result<T, Fault>) -> u8 {
-    match answer {
-        Ok(_) => 0,
-        Err(fault) => fault.number(),
-    }
-}
 
 /// How 100 marks into euro are answered by a book over so many records.
-fn marks_over(records: &mut [Leg]) -> u8 {
+fn marks_over(records: &mut [Leg]) -> Option<Fault> {
     let mut book = Book::open(Journal::open(records), 1);
-    let number = refusal(convert_and_park(&mut book, exchange(2, 0, 10_000)));
+    let refused = convert_and_park(&mut book, exchange(2, 0, 10_000)).err();
     let _journal = book.close();
-    number
+    refused
 }
 
 /// How the largest amount of euro into marks is answered.
-fn largest_into_marks() -> u8 {
-    let mut records = [BLANK; 8];
+fn largest_into_marks() -> Option<Fault> {
+    let mut records = [Leg::default(); 8];
     let mut book = Book::open(Journal::open(&mut records), 1);
-    let number = refusal(convert_and_park(&mut book, exchange(0, 2, MOST_AMOUNT)));
+    let refused = convert_and_park(&mut book, exchange(0, 2, MOST_AMOUNT)).err();
     let _journal = book.close();
-    number
+    refused
 }
 
-/// Converts so often, carrying nothing, and answers the last refusal.
-fn convert_often<L: Ledger>(book: &mut Book<L>, times: u32) -> u8 {
-    let mut last = 0;
+/// Converts so often, carrying nothing, and answers the last refusal, if the last conversion was refused.
+fn convert_often<L: Ledger>(book: &mut Book<L>, times: u32) -> Option<Fault> {
+    let mut last = None;
     for _ in 0..times {
-        last = refusal(convert_and_park(book, exchange(6, 0, 9)));
+        last = convert_and_park(book, exchange(6, 0, 9)).err();
     }
     last
 }
 
 /// How the last of so many conversions is answered if nothing is carried.
-fn nothing_carried(times: u32) -> u8 {
-    let mut records = [BLANK; 500];
+fn nothing_carried(times: u32) -> Option<Fault> {
+    let mut records = [Leg::default(); 500];
     let mut book = Book::open(Journal::open(&mut records), 1);
-    let number = convert_often(&mut book, times);
+    let refused = convert_often(&mut book, times);
     let _journal = book.close();
-    number
+    refused
 }
 
 /// Carries so many slips of nine lire to account 40 and sweeps: the refusal, and what stays in the column.
-fn sweep_after(slips: u32) -> (u8, i64) {
-    let mut records = [BLANK; 100];
+fn sweep_after(slips: u32) -> (Option<Fault>, i64) {
+    let mut records = [Leg::default(); 100];
     let mut book = Book::open(Journal::open(&mut records), 1);
     for _ in 0..slips {
         if let Ok((_, number)) = convert_and_park(&mut book, exchange(6, 0, 9)) {
-            let _ = carry_number(&mut book, number as u64, 40);
+            let _ = carry_number(&mut book, u64::from(number), 40);
         }
     }
-    let number = refusal(book.sweep(40, 17));
+    let refused = book.sweep(40, 17).err();
     let stays = book.cell(40, 17);
     let _journal = book.close();
-    (number, stays)
+    (refused, stays)
 }
 
 /// How a book answers a slip of another.
-fn foreign_slip() -> u8 {
-    let mut ours = [BLANK; 8];
-    let mut theirs = [BLANK; 8];
+fn foreign_slip() -> Option<Fault> {
+    let mut ours = [Leg::default(); 8];
+    let mut theirs = [Leg::default(); 8];
     let mut book = Book::open(Journal::open(&mut ours), 1);
     let mut other = Book::open(Journal::open(&mut theirs), 2);
-    let number = match book.convert(exchange(2, 0, 10_000)) {
+    let refused = match book.convert(exchange(2, 0, 10_000)) {
         Ok((_, slip)) => match slip.carry(&mut other, 40) {
-            Ok(()) => 0,
+            Ok(()) => None,
             Err((slip, fault)) => {
                 let _ = slip.park(&mut book);
-                fault.number()
+                Some(fault)
             }
         },
-        Err(fault) => fault.number(),
+        Err(fault) => Some(fault),
     };
     let _journal = book.close();
     let _journal = other.close();
-    number
+    refused
 }
 
-fn show_limit(rt: &HostRuntime, what: &str, number: u8, expected: u8) -> io::Result<()> {
+/// Prints the number of a refusal, 0 where there is none, and whether it is the one expected.
+fn show_limit(
+    rt: &HostRuntime,
+    what: &str,
+    refused: Option<Fault>,
+    expected: u8,
+) -> io::Result<()> {
+    let number = refused.map_or(0, Fault::number);
     let verdict = if number == expected {
         "agrees"
     } else {
@@ -112,11 +106,11 @@ fn show_limit(rt: &HostRuntime, what: &str, number: u8, expected: u8) -> io::Res
     println!(rt; "  {what}: {number}, {verdict}")
 }
 
-/// Prints each limit: the number of the refusal, 0 where the call is accepted.
+/// Prints each limit of a book.
 pub(crate) fn show(rt: &HostRuntime) -> io::Result<()> {
     println!(rt; "Limits of a book, by the number of the refusal")?;
-    show_limit(rt, "marks over 5 records", marks_over(&mut [BLANK; 5]), 17)?;
-    show_limit(rt, "marks over 6 records", marks_over(&mut [BLANK; 6]), 0)?;
+    show_limit(rt, "marks over 5 records", marks_over(&mut [Leg::default(); 5]), 17)?;
+    show_limit(rt, "marks over 6 records", marks_over(&mut [Leg::default(); 6]), 0)?;
     show_limit(rt, "the largest amount into marks", largest_into_marks(), 9)?;
     show_limit(
         rt,
@@ -131,10 +125,10 @@ pub(crate) fn show(rt: &HostRuntime) -> io::Result<()> {
         10,
     )?;
     show_limit(rt, "a slip of another book", foreign_slip(), 12)?;
-    let (number, stays) = sweep_after(2);
-    show_limit(rt, "a sweep after two slips of nine lire", number, 15)?;
+    let (refused, stays) = sweep_after(2);
+    show_limit(rt, "a sweep after two slips of nine lire", refused, 15)?;
     println!(rt; "    {stays} parts stay")?;
-    let (number, stays) = sweep_after(3);
-    show_limit(rt, "a sweep after three", number, 0)?;
+    let (refused, stays) = sweep_after(3);
+    show_limit(rt, "a sweep after three", refused, 0)?;
     println!(rt; "    {stays} parts stay")
 }

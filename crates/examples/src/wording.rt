@@ -87,7 +87,7 @@ pub(crate) fn show_request(rt: &HostRuntime, request: Request) -> io::Result<()>
     match convert(from, to, amount) {
         Ok(conversion) => show_conversion(rt, request, conversion),
         Err(fault) => {
-            let fault = Fault::Book(fault);
+            let fault = Fault::from(fault);
             println!(rt; "    refused: {fault}")
         }
     }

@@ -8,8 +8,7 @@ ghost use Rattle.book.specs.View.{state_of};
 
 use super::Book;
 use super::currency::currency_at;
-use super::refusal::refused;
-use apportion::is_named;
+use super::refusal::check_named;
 use docket::MOST_RECORDS;
 use ledger::{Entry, Ledger};
 use model::{Exchange, Record};
@@ -34,21 +33,18 @@ impl<L: Ledger> Book<L> {
         ensures value { proposes (λ p. entering (p.booked, p.docketed.number) p.entry (issues (p.docketed ∷ []))) result ≡ converting (state_of L.Balances self.now) exchange }
         ensures issuable { IfOk result (λ p. Issuable (state_of L.Balances self.now) p.docketed) }
     {
-        if !self.fit {
-            return Err(refused(BookCause::Unfit));
-        }
+        self.check_fit()?;
         let from = currency_at(exchange.source)?;
         let to = currency_at(exchange.target)?;
         let route = Route::new(from, to)?;
-        if !is_named(exchange.from) || !is_named(exchange.to) {
-            return Err(refused(BookCause::AccountNotNamed));
-        }
+        check_named(exchange.from)?;
+        check_named(exchange.to)?;
         let conversion = route.convert(exchange.amount)?;
         if self.docket.len() >= MOST_RECORDS {
-            return Err(refused(BookCause::DocketFull));
+            return Err(BookCause::DocketFull.into());
         }
         if self.given >= MOST_SLIPS {
-            return Err(refused(BookCause::SlipsExhausted));
+            return Err(BookCause::SlipsExhausted.into());
         }
         let booked = conversion.booked();
         let docketed = record_of(self.given + 1, from, to, conversion);

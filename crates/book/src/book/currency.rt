@@ -3,7 +3,6 @@ ghost use Rattle.std.specs.Prelude.{◌≡◌};
 ghost use Rattle.register.specs.Register.{book_answer};
 ghost use Rattle.model.specs.Step.{currency_at};
 
-use super::refusal::refused;
 use money::Currency;
 use register::{BookCause, BookFault};
 
@@ -11,8 +10,5 @@ use register::{BookCause, BookFault};
 pub fn currency_at(number: u64) -> Result<Currency, BookFault>
     ensures { book_answer result ≡ currency_at number 0 }
 {
-    match Currency::from_number(number) {
-        Some(currency) => Ok(currency),
-        None => Err(refused(BookCause::UnknownCurrency)),
-    }
+    Currency::from_number(number).ok_or(BookCause::UnknownCurrency.into())
 }

@@ -7,20 +7,17 @@ ghost use Rattle.book.specs.Proposals.{entering, proposes};
 ghost use Rattle.book.specs.View.{state_of};
 
 use super::Book;
-use super::refusal::refused;
 use ledger::{Entry, Ledger};
 use model::Posting;
 use postings::post_entry;
-use register::{BookCause, BookFault, Fault};
+use register::{BookFault, Fault};
 
 impl<L: Ledger> Book<L> {
     /// The entry of a post: refused 1, 6, each leg 4, 2, 5, then 7.
     fn propose_post(&self, postings: &[Posting]) -> Result<Entry, BookFault>
         ensures { proposes (λ e. entering tt e unchanged) result ≡ posting (state_of L.Balances self.now) postings.now }
     {
-        if !self.fit {
-            return Err(refused(BookCause::Unfit));
-        }
+        self.check_fit()?;
         post_entry(postings)
     }
 

@@ -7,12 +7,13 @@ ghost use Rattle.book.specs.Slips.{admitted};
 ghost use Rattle.book.specs.View.{state_of};
 
 use super::Book;
-use super::refusal::refused;
+use crate::slip::Slip;
 use ledger::Ledger;
 use model::{Record, Standing};
 use register::{BookCause, BookFault};
 
-/// What a call does with a slip: a carry and a parking end it, and a take-up gives it again.
+/// What a call does with a slip: a carry and a parking end it, and a take-up gives it again. By a rule of the project
+/// a record's standing and the call are matched together, in one place.
 #[derive(Clone, Copy)]
 pub(super) enum SlipCall {
     End,
@@ -25,8 +26,8 @@ pub(super) fn admit(standing: Standing, call: SlipCall) -> Result<(), BookFault>
 {
     match (standing, call) {
         (Standing::Out, SlipCall::End) | (Standing::Parked, SlipCall::TakeUp) => Ok(()),
-        (Standing::Out, SlipCall::TakeUp) => Err(refused(BookCause::SlipIsOut)),
-        (Standing::Parked, SlipCall::End) => Err(refused(BookCause::ForeignSlip)),
+        (Standing::Out, SlipCall::TakeUp) => Err(BookCause::SlipIsOut.into()),
+        (Standing::Parked, SlipCall::End) => Err(BookCause::ForeignSlip.into()),
     }
 }
 
@@ -35,22 +36,19 @@ fn if_out(found: Option<Record>) -> Option<Record>
     ensures { result ≡ if_out found }
 {
     let docketed = found?;
-    match admit(docketed.standing, SlipCall::End) {
-        Ok(()) => Some(docketed),
-        Err(_) => None,
-    }
+    admit(docketed.standing, SlipCall::End).ok()?;
+    Some(docketed)
 }
 
 impl<L: Ledger> Book<L> {
-    /// The record of a slip of that mark and number, if such a slip is this book's: the mark agrees, and the number is
-    /// on the docket as out.
-    pub(super) fn slip_record(&self, mark: u32, number: u32) -> Option<Record>
-        ensures value { result ≡ slip_record (state_of L.Balances self.now) mark number }
+    /// The record of a slip, if it is this book's: the mark agrees, and the number is on the docket as out.
+    pub(super) fn slip_record(&self, slip: &Slip) -> Option<Record>
+        ensures value { result ≡ slip_record (state_of L.Balances self.now) slip.now.mark slip.now.number }
         ensures bounded { IfSome result Bounded }
     {
-        if mark != self.mark {
+        if slip.mark() != self.mark {
             return None;
         }
-        if_out(self.docket.find(number as u64))
+        if_out(self.docket.find(u64::from(slip.number())))
     }
 }

@@ -9,8 +9,8 @@ ghost use Rattle.book.specs.View.{state_of, split_answer};
 
 use super::Book;
 use super::currency::currency_at;
-use super::refusal::refused;
-use apportion::{Fraction, MOST_SHARES, Share, TieRule, apportion, is_named};
+use super::refusal::check_named;
+use apportion::{Fraction, MOST_SHARES, Share, TieRule, apportion};
 use ledger::{Entry, Ledger};
 use model::Division;
 use money::Minor;
@@ -54,18 +54,14 @@ impl<L: Ledger> Book<L> {
         ensures portions { IfOk result (λ p. Writable shares.now (portions_of (R.TieRule.tie rule.now) (unsigned_abs division.amount.0) shares.now) p.portions lent.portions) }
         ensures fractions { IfOk result (λ p. Writable shares.now (fractions_of (R.TieRule.tie rule.now) (unsigned_abs division.amount.0) shares.now) p.fractions lent.fractions) }
     {
-        if !self.fit {
-            return Err(refused(BookCause::Unfit));
-        }
+        self.check_fit()?;
         let currency = currency_at(division.currency)?;
-        if !is_named(division.account) {
-            return Err(refused(BookCause::AccountNotNamed));
-        }
+        check_named(division.account)?;
         let mut portions = [Minor(0); MOST_SHARES];
         let mut fractions = [Fraction(0); MOST_SHARES];
         apportion(rule, division.amount, shares, &mut portions, &mut fractions)?;
         if lent.portions < shares.len() || lent.fractions < shares.len() {
-            return Err(refused(BookCause::ListsTooShort));
+            return Err(BookCause::ListsTooShort.into());
         }
         let entry = split_entry(division, currency, shares, &portions[0..shares.len()]);
         Ok(Apportioned {

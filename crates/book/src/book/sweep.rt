@@ -7,8 +7,7 @@ ghost use Rattle.book.specs.Proposals.{entering, proposes};
 ghost use Rattle.book.specs.View.{state_of};
 
 use super::Book;
-use super::refusal::refused;
-use apportion::is_named;
+use super::refusal::check_named;
 use ledger::{Entry, FractionColumn, Ledger};
 use money::Minor;
 use postings::{sweep_entry, sweepable};
@@ -19,18 +18,12 @@ impl<L: Ledger> Book<L> {
     fn propose_sweep(&self, account: u64, column: u64) -> Result<(Minor, Entry), BookFault>
         ensures { proposes (λ p. entering p.0 p.1 unchanged) result ≡ sweeping (state_of L.Balances self.now) account column }
     {
-        if !self.fit {
-            return Err(refused(BookCause::Unfit));
-        }
-        if !is_named(account) {
-            return Err(refused(BookCause::AccountNotNamed));
-        }
-        let Some(fraction) = FractionColumn::from_number(column) else {
-            return Err(refused(BookCause::NotAFractionColumn));
-        };
+        self.check_fit()?;
+        check_named(account)?;
+        let fraction = FractionColumn::from_number(column).ok_or(BookCause::NotAFractionColumn)?;
         let swept = sweepable(fraction, self.ledger.cell(account, column));
         if swept.0 == 0 {
-            return Err(refused(BookCause::NothingToSweep));
+            return Err(BookCause::NothingToSweep.into());
         }
         Ok((swept, sweep_entry(account, fraction, swept)))
     }
