@@ -1,17 +1,15 @@
 //! Conversions between the currencies, through the euro, with what rounding leaves.
 ghost use Rattle.std.specs.Prelude.{◌≡◌, ◌*◌, ◌^◌, ◌<◌, ◌≤◌, IfOk, unsigned_abs};
 ghost use Rattle.register.specs.Register.{book_answer};
-ghost use Rattle.money.specs.Conversions.{exact_from, exact_into, exchanged, booked, converted, converting, route_of, most_amount, most_mills, rounded_to};
+ghost use Rattle.money.specs.Conversions.{exact_from, exact_into, exchanged, booked, converted, converting, route_of, most_mills, rounded_to};
 ghost use Rattle.money.specs.Laws.{Joins, Lossless, LosslessBetween};
 ghost use Rattle.money.specs.Table.{rate, parts};
 
+use crate::amount::{Amount, MOST_AMOUNT};
 use crate::currency::{Currency, National};
 use crate::quantity::{Mills, Minor, Parts};
 use crate::rounding::Rounded;
 use register::{BookCause, BookFault};
-
-/// T: the most minor units that an amount may have.
-pub const MOST_AMOUNT: i64 = 99_999_999_999;
 
 /// From which currency into which: there is no step between two national currencies but through the euro.
 #[derive(Clone, Copy)]
@@ -76,10 +74,7 @@ impl Route {
         ensures value { book_answer result ≡ converted self amount.0 }
         ensures lossless { IfOk result (λ c. Lossless self (unsigned_abs amount.0) c) }
     {
-        if amount.0 < 1 || amount.0 > MOST_AMOUNT {
-            return Err(BookCause::AmountOutOfRange.into());
-        }
-        let conversion = self.exchange(amount.0 as u64);
+        let conversion = self.exchange(Amount::try_from(amount)?);
         if conversion.booked().0 > MOST_AMOUNT {
             return Err(BookCause::BookedTooMuch.into());
         }
@@ -87,9 +82,8 @@ impl Route {
     }
 
     /// The arithmetic of a conversion, however much it books.
-    fn exchange(self, amount: u64) -> Conversion
-        requires { amount ≤ most_amount }
-        ensures { result ≡ exchanged self amount }
+    fn exchange(self, amount: Amount) -> Conversion
+        ensures { result ≡ exchanged self amount.units }
     {
         match self {
             Route::IntoEuro(from) => {
@@ -100,7 +94,7 @@ impl Route {
                 }
             }
             Route::FromEuro(to) => {
-                let units = units_into(to, 10 * amount);
+                let units = units_into(to, 10 * amount.units);
                 Conversion::FromEuro {
                     booked: Minor(units.whole as i64),
                     national: units.residue,
@@ -121,21 +115,19 @@ impl Route {
 }
 
 /// The cents that an amount of a national currency comes to.
-fn cents_from(from: National, amount: u64) -> Rounded
-    requires { amount ≤ most_amount }
-    ensures value { result ≡ rounded_to (exact_from from amount) (10 * rate from) }
+fn cents_from(from: National, amount: Amount) -> Rounded
+    ensures value { result ≡ rounded_to (exact_from from amount.units) (10 * rate from) }
     ensures small { result.whole < 2 ^ 63 }
 {
-    Rounded::nearest(amount * from.parts(), 10 * from.rate())
+    Rounded::nearest(amount.units * from.parts(), 10 * from.rate())
 }
 
 /// The mills that an amount of a national currency comes to on its way into another.
-fn mills_from(from: National, amount: u64) -> Rounded
-    requires { amount ≤ most_amount }
-    ensures value { result ≡ rounded_to (exact_from from amount) (rate from) }
+fn mills_from(from: National, amount: Amount) -> Rounded
+    ensures value { result ≡ rounded_to (exact_from from amount.units) (rate from) }
     ensures small { result.whole ≤ most_mills }
 {
-    Rounded::nearest(amount * from.parts(), from.rate())
+    Rounded::nearest(amount.units * from.parts(), from.rate())
 }
 
 /// The minor units of a national currency that mills come to.
