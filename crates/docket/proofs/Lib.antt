@@ -1,3 +1,2 @@
 pub mod Appending
-mod Bounds
-mod Places
+mod Numbers

@@ -1,13 +1,8 @@
--- Lists of records: places, bounds, and one record more. Assumes nothing.
-use Rattle.std.specs.Prelude.{ℕ, suc, ◌≤◌, Bool, true, false, cond, ◌&&◌, List, [], ◌∷◌, ◌++◌, length, ◌==◌, nat_le, nat_lt, unsigned_abs}
+-- Lists of records: bounds, and one record more. Assumes nothing.
+use Rattle.std.specs.Prelude.{◌≤◌, Bool, true, false, cond, ◌&&◌, List, [], ◌∷◌, ◌++◌, length, nat_le, nat_lt, unsigned_abs}
 use Rattle.money.specs.Conversions.{most_amount}
 use Rattle.model.specs.declared.record.Record.{Record}
 use Rattle.model.specs.Docket.{most_records}
-
--- the place of the first record of that number, or the length
-abbrev pub place : ℕ → List Record → ℕ
-place n [] = 0
-place n (r ∷ rs) = cond (r.number == n) 0 (suc (place n rs))
 
 -- Both residues are at most T either way.
 pub record Bounded (r : Record) : Type 0 where
@@ -17,11 +12,6 @@ pub record Bounded (r : Record) : Type 0 where
 -- the test whether both residues are
 abbrev pub residues_bounded : Record → Bool
 residues_bounded r = nat_le (unsigned_abs r.euro.0) most_amount && nat_le (unsigned_abs r.national.0) most_amount
-
--- whether every record's are
-abbrev pub all_bounded : List Record → Bool
-all_bounded [] = true
-all_bounded (r ∷ rs) = residues_bounded r && all_bounded rs
 
 -- one record more, if there is room and its residues are bounded; else nothing changes
 abbrev pub appended : List Record → Record → Bool × List Record

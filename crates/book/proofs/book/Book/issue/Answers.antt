@@ -9,5 +9,5 @@ returns g c =
     let r = c.in_ok-booked.field-0.docketed in
     let fits = c.in_ok-booked.ensures.issuable in
     let number = fits.number in
-    let docket : records_of c.append.new.self ≡ records_of c.args.self.now.docket ++ r ∷ [] = ap (λ p. p.1) (c.append.ensures ∙ appended_one _ r fits.room fits.residues) in
+    let docket : records_of c.append.new.self ≡ records_of c.args.self.now.docket ++ r ∷ [] = ap (λ p. p.1) (c.append.ensures.value ∙ appended_one _ r fits.room fits.residues) in
     search rules

@@ -1,23 +1,16 @@
--- The record stands at its number's place. Assumes nothing.
-use Rattle.std.proofs.Common.{arith}
-use Rattle.docket.proofs.Bounds.{bounded_at, bounded_facts}
-use Rattle.docket.proofs.Places.{find_some, find_none, number_found, blank}
+-- The first record of that number. Assumes nothing.
+use Rattle.std.proofs.Common.{◌∙◌, rules}
+use borrow.Author.Tests.{tests}
+use Rattle.std.proofs.lemmas.Iterator.{YieldsList-from_slice}
+use Rattle.std.proofs.lemmas.Iterator.Search.{find_from_yields_List}
+use Rattle.docket.specs.Held.{records_of}
+use Rattle.docket.proofs.Numbers.{bears, find_found}
 use Rattle.docket.proofs.docket.Docket.find.Goals as goal
 
-pub returns-then-i-self : goal.returns-then-i-self
-returns-then-i-self c =
-    let d = c.args.self.now in
-    record {
-      value = find_some d.stored d.count (omega (arith, d.wide, d.within)) c.args.number c.place_of-i.result c.place_of-i.ensures c.if-i-self.true;
-      numbered = number_found d.stored d.count (omega (arith, d.wide, d.within)) c.args.number c.place_of-i.result c.place_of-i.ensures c.if-i-self.true;
-      bounded = bounded_facts _ (bounded_at d.stored c.place_of-i.result blank d.bounded (omega (arith, d.wide, d.within, c.if-i-self.true)));
-    }
-
-pub returns-else-i-self : goal.returns-else-i-self
-returns-else-i-self c =
-    let d = c.args.self.now in
-    record {
-      value = find_none d.stored d.count (omega (arith, d.wide, d.within)) c.args.number c.place_of-i.result c.place_of-i.ensures c.if-i-self.false;
-      numbered = tt;
-      bounded = tt;
-    }
+pub returns-clause-value : goal.returns-clause-value
+returns-clause-value c =
+    let n = c.args.number in
+    let xs = records_of c.args.self.now in
+    c.copied.ensures
+    ∙ find_from_yields_List (bears n) _ _ _ c.find.ensures.ran (YieldsList-from_slice xs (c.iter.ensures.rest ∙ c.records.ensures)) (λ x b q k. search (rules, tests))
+    ∙ find_found n xs
