@@ -4,21 +4,13 @@ use Rattle.register.specs.Register.{Refusal}
 use Rattle.money.specs.declared.conversion.Conversion.{Conversion}
 use Rattle.money.specs.declared.quantity.Minor.{Minor}
 use Rattle.money.specs.Conversions.{booked, converting}
-use Rattle.ledger.specs.Limits.{floor_of, ceiling_of}
-use Rattle.ledger.specs.Meaning.{Meaning}
 use Rattle.apportion.specs.Splits.{over}
 use Rattle.model.specs.declared.request.Exchange.{Exchange}
 use Rattle.model.specs.Calls.{convert}
 use Rattle.model.specs.History.{after}
 use Rattle.model.specs.Results.{and_then}
-use Rattle.model.specs.State.{State, opened}
+use Rattle.model.specs.State.{State}
 use Rattle.model.specs.Step.{step, currency_at}
-use Rattle.sheet.specs.declared.sheet.Sheet.{Sheet}
-use Rattle.sheet.specs.Sheet.{sheet_meaning}
-use Rattle.journal.specs.declared.journal.Journal.{Journal}
-use Rattle.journal.specs.Journal.{journal_meaning}
-use Rattle.book.specs.declared.book.Book.{Book}
-use Rattle.book.specs.View.{state_of}
 use Rattle.requests.specs.Requests.{Rule, conversion_calls, carry_calls, line_calls}
 
 -- ---- one conversion
@@ -32,26 +24,6 @@ converting_numbers source target amount =
 abbrev pub booked_or_refusal : Result Conversion Refusal → ℤ
 booked_or_refusal (Ok c) = (booked c).0
 booked_or_refusal (Err refusal) = neg_ℤ (pos refusal.number)
-
--- ---- the books that are opened
-
--- what a ledger means that has taken nothing
-abbrev pub empty_ledger : (room : ℕ) → Meaning
-empty_ledger room = record { room = room; cell = λ a k. pos 0; floor = floor_of; ceiling = ceiling_of }
-
--- the state of a book on a sheet, and of one on a journal
-abbrev pub sheet_state : Book Sheet → State
-sheet_state b = state_of (record { KIND = 83; meaning = sheet_meaning }) b
-
-abbrev pub journal_state : Book Journal → State
-journal_state b = state_of (record { KIND = 74; meaning = journal_meaning }) b
-
--- a book on a sheet of room 4,000,000, and one on a journal of 4,096 records; both bear the mark 1
-unfoldable pub sheet_book : State
-sheet_book = opened (empty_ledger 4_000_000) 83 1
-
-unfoldable pub journal_book : State
-journal_book = opened (empty_ledger 4_096) 74 1
 
 -- ---- rounds
 

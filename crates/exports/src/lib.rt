@@ -8,20 +8,20 @@ ghost use Rattle.model.specs.Calls.{cell};
 ghost use Rattle.model.specs.Step.{asked};
 ghost use Rattle.requests.specs.Requests.{ruled};
 ghost use Rattle.runner.specs.Transcript.{transcript_of};
-ghost use Rattle.exports.specs.Exports.{booked_or_refusal, converting_numbers, exchange_of, exchange_rounds, line_rounds, sheet_book, journal_book, HandedOut};
+ghost use Rattle.exports.specs.Exports.{booked_or_refusal, converting_numbers, exchange_of, exchange_rounds, line_rounds, HandedOut};
+ghost use Rattle.programs.specs.Books.{sheet_book, journal_book};
 
-use crate::books::{BLANK, RECORDS, open_journal, open_sheet};
 use crate::conversion::convert_numbers;
 use crate::rounds::{convert_rounds, line_rounds};
 use crate::text::hand_out;
-use ledger::Balances;
+use ledger::{Balances, Leg};
 use model::Exchange;
 use money::Minor;
+use programs::{RECORDS, open_journal, open_sheet};
 use register::Fault;
 use sheet::SHEET_CELLS;
 use std::alloc::Global;
 
-mod books;
 mod conversion;
 mod rounds;
 mod text;
@@ -39,7 +39,7 @@ pub extern "C" fn seutmilai_convert(source: u64, target: u64, amount: i64) -> i6
 {
     match convert_numbers(source, target, Minor(amount)) {
         Ok(conversion) => conversion.booked().0,
-        Err(fault) => -(Fault::Book(fault).number() as i64),
+        Err(fault) => -(Fault::from(fault).number() as i64),
     }
 }
 
@@ -95,7 +95,7 @@ pub extern "C" fn seutmilai_sheet_transcript(heap: Global, input: &[u8], output:
 pub extern "C" fn seutmilai_journal_transcript(heap: Global, input: &[u8], output: &mut [u8]) -> u64
     ensures { (law : Lawful by_place) → HandedOut result (transcript_of (ruled law) journal_book input.now) output.old output.new }
 {
-    let mut records = [BLANK; RECORDS];
+    let mut records = [Leg::default(); RECORDS];
     let mut book = open_journal(&mut records);
     hand_out(heap, &mut book, input, output)
 }

@@ -3,8 +3,10 @@
 
 mod answers;
 mod audit;
+mod streams;
 mod text;
 mod whole;
 
 pub use audit::write_audit;
+pub use streams::run_streams;
 pub use whole::{MOST_INPUT, run};

@@ -2,8 +2,8 @@ use Rattle.std.proofs.Common.{◌≡◌, ℕ, true, leb, length, ap, ◌∙◌, 
 use Rattle.std.proofs.lemmas.Bool.{le-leb, cond-true}
 use Rattle.ledger.specs.Meaning.{Meaning}
 use Rattle.model.specs.State.{opened}
-use Rattle.exports.specs.Exports.{empty_ledger, sheet_book}
-use Rattle.exports.proofs.books.open_sheet.Goals as goal
+use Rattle.programs.specs.Books.{empty_ledger, sheet_book}
+use Rattle.programs.proofs.books.open_sheet.Goals as goal
 
 pub returns : goal.returns
 unfolding sheet_book

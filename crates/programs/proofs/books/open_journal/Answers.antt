@@ -1,8 +1,8 @@
 use Rattle.std.proofs.Common.{◌≡◌, ℕ, min, length, ap, ◌∙◌}
 use Rattle.ledger.specs.Meaning.{Meaning}
 use Rattle.model.specs.State.{opened}
-use Rattle.exports.specs.Exports.{empty_ledger, journal_book}
-use Rattle.exports.proofs.books.open_journal.Goals as goal
+use Rattle.programs.specs.Books.{empty_ledger, journal_book}
+use Rattle.programs.proofs.books.open_journal.Goals as goal
 
 pub returns : goal.returns
 unfolding journal_book

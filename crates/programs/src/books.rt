@@ -1,6 +1,6 @@
-//! The books that the exported functions open: those of the two programs.
+//! A book on an empty sheet, and one on an empty journal.
 ghost use Rattle.std.specs.Prelude.{◌≡◌};
-ghost use Rattle.exports.specs.Exports.{sheet_state, journal_state, sheet_book, journal_book};
+ghost use Rattle.programs.specs.Books.{sheet_state, journal_state, sheet_book, journal_book};
 
 use book::Book;
 use journal::Journal;
@@ -11,27 +11,20 @@ use sheet::{SHEET_CELLS, Sheet};
 const ROOM: u64 = 4_000_000;
 
 /// How many records the journal has.
-pub(crate) const RECORDS: usize = 4_096;
-
-/// A record that nothing was written to.
-pub(crate) const BLANK: Leg = Leg {
-    account: 0,
-    column: 0,
-    amount: 0,
-};
+pub const RECORDS: usize = 4_096;
 
 /// What the book's slips bear. None leaves the engine, so any mark does.
 const MARK: u32 = 1;
 
 /// A book on a sheet.
-pub(crate) fn open_sheet<'a>(cells: &'a mut [i64; SHEET_CELLS]) -> Book<Sheet<'a>>
+pub fn open_sheet<'a>(cells: &'a mut [i64; SHEET_CELLS]) -> Book<Sheet<'a>>
     ensures { sheet_state result ≡ sheet_book }
 {
     Book::open(Sheet::open(cells, ROOM), MARK)
 }
 
 /// A book on a journal.
-pub(crate) fn open_journal<'a>(records: &'a mut [Leg; RECORDS]) -> Book<Journal<'a>>
+pub fn open_journal<'a>(records: &'a mut [Leg; RECORDS]) -> Book<Journal<'a>>
     ensures { journal_state result ≡ journal_book }
 {
     Book::open(Journal::open(records), MARK)
