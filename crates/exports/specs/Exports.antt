@@ -52,8 +52,10 @@ exchange_of source target amount = record { from = 2; to = 3; source = source; t
 
 -- ---- a text handed out
 
--- As much of the text as the list takes stands over its front, and the length of the text is answered; or memory ran
--- out, 0 is answered and the list is as it was.
+-- As much of the text as the list takes stands over its front, and the length of the text is answered.
+abbrev pub HandsOut : (answer : ℕ) (text before since : List ℕ) → Type 0
+HandsOut n text before since = (n ≡ length text) × (since ≡ over (take (length before) text) before)
+
+-- The text is handed out; or memory ran out, 0 is answered and the list is as it was.
 abbrev pub HandedOut : (answer : ℕ) (text before since : List ℕ) → Type 0
-HandedOut n text before since =
-    ((n ≡ length text) × (since ≡ over (take (length before) text) before)) ⊎ ((n ≡ 0) × (since ≡ before))
+HandedOut n text before since = HandsOut n text before since ⊎ ((n ≡ 0) × (since ≡ before))

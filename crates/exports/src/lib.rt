@@ -87,7 +87,7 @@ pub extern "C" fn seutmilai_sheet_transcript(heap: Global, input: &[u8], output:
 {
     let mut cells = [0; SHEET_CELLS];
     let mut book = open_sheet(&mut cells);
-    hand_out(heap, &mut book, input, output)
+    hand_out(heap, &mut book, input, output).unwrap_or(0)
 }
 
 /// The same on a journal of 4,096 records.
@@ -97,5 +97,5 @@ pub extern "C" fn seutmilai_journal_transcript(heap: Global, input: &[u8], outpu
 {
     let mut records = [Leg::default(); RECORDS];
     let mut book = open_journal(&mut records);
-    hand_out(heap, &mut book, input, output)
+    hand_out(heap, &mut book, input, output).unwrap_or(0)
 }
