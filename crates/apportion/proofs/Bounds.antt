@@ -10,7 +10,7 @@ use Rattle.apportion.specs.Splits.{weight_at, all_weights, quotient, remainder, 
 use Rattle.apportion.specs.Ties.{Tie}
 use Rattle.apportion.proofs.Checks.{sum_more}
 use Rattle.apportion.proofs.Counts.{sum_part, sum_bound}
-use Rattle.apportion.proofs.Remainders.{quotients_within, remainder_below}
+use Rattle.apportion.proofs.Remainders.{quotients_within}
 
 module _ (amount : ℕ) (shares : List Share) (w : ℕ) (s : Divisible amount shares w) where
   pub weighs : 0 < all_weights shares
@@ -29,8 +29,8 @@ module _ (amount : ℕ) (shares : List Share) (w : ℕ) (s : Divisible amount sh
   pub quotients_so_far : (i : ℕ) → i ≤ length shares → sum_below (quotient amount shares) i ≤ amount
   quotients_so_far i h = omega (arith, sum_part (quotient amount shares) i (length shares) h, quotients_within amount shares weighs)
 
-  pub remainder_small : (i : ℕ) → remainder amount shares i < w
-  remainder_small i = omega (arith, remainder_below amount shares weighs i, s.sum)
+  pub units_within : sum_below (quotient amount shares) (length shares) ≤ amount
+  units_within = quotients_within amount shares weighs
 
   pub quotient_small : (i : ℕ) → i < length shares → quotient amount shares i ≤ amount
   quotient_small i h = omega (arith, quotients_so_far (i + 1) (omega arith), sum_more (quotient amount shares) i)

@@ -1,5 +1,7 @@
 -- The counting argument: exactly k places have a rank below k. Assumes nothing.
-use Rattle.std.proofs.Common.{◌≡◌, ℕ, zero, suc, ◌+◌, ◌-◌, ◌*◌, ◌<◌, ◌≤◌, Bool, true, false, not, eqb, ltb, sym, refl, ap, ◌∙◌, subst, ⊎_elim, suc-mul, mul-zero, mul-add, arith}
+use Rattle.std.proofs.Common.{◌≡◌, ℕ, zero, suc, ◌+◌, ◌-◌, ◌*◌, ◌<◌, ◌≤◌, Bool, true, false, map, sum, not, eqb, ltb, sym, refl, ap, ◌∙◌, subst, ⊎_elim, suc-mul, mul-zero, mul-add, add-one, arith}
+use Rattle.std.specs.List.{range_with_len}
+use Rattle.std.proofs.lemmas.List.FromFn.{sum_by-map-range_with_len_more}
 use Rattle.std.proofs.lemmas.Bool.{both_ways, cases_Bool, cases_eq, lt-ltb, le-ltb, eqb-true}
 use Rattle.std.proofs.lemmas.Bool.Decides.{nat_tests}
 use Rattle.apportion.specs.Places.{sum_below, one_if, count, rank_in, Strict, RanksFill}
@@ -35,14 +37,18 @@ sum_part f i zero h = let e : i ≡ 0 = omega arith in rw e (omega arith)
 sum_part f i (suc n) h =
     ⊎_elim (λ e. rw e (omega arith)) (λ d. omega (arith, sum_part f i n (omega arith))) (cases_eq i (suc n))
 
+-- the sum over the places below n, as a sum over the list of them
+pub sum_mapped : (f : ℕ → ℕ) (n : ℕ) → sum (map f (range_with_len 0 n)) ≡ sum_below f n
+sum_mapped f zero = refl
+sum_mapped f (suc n) =
+    ap (λ m. sum (map f (range_with_len 0 m))) (sym (add-one n))
+    ∙ sum_by-map-range_with_len_more (λ x. x) f 0 n n (omega arith)
+    ∙ ap (λ x. x + f n) (sum_mapped f n)
+
 -- a sum of numbers of at most m each
 pub sum_bound : (f : ℕ → ℕ) (m n : ℕ) → ((k : ℕ) → f k ≤ m) → sum_below f n ≤ n * m
 sum_bound f m zero h = omega arith
 sum_bound f m (suc n) h = omega (arith, sum_bound f m n h, h n, suc-mul n m)
-
-one_or_none_le : (b : Bool) → one_if b ≤ 1
-one_or_none_le true = omega arith
-one_or_none_le false = omega arith
 
 one_or_none_mono : (a b : Bool) → (a ≡ true → b ≡ true) → one_if a ≤ one_if b
 one_or_none_mono true b h = subst (λ x. 1 ≤ one_if x) (sym (h refl)) (omega arith)

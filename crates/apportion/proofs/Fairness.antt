@@ -1,5 +1,5 @@
 -- Every split is fair. Assumes nothing.
-use Rattle.std.proofs.Common.{◌≡◌, ℕ, ◌+◌, ◌*◌, ◌<◌, Bool, true, false, cond, ltb, List, map, length, take, drop, pos, ◌+ℤ◌, nat_abs, sym, ap, ◌∙◌, inl, inr, ⊎_elim, mul_comm, add-mul, one-mul, mul-zero, zero-mul, mul-one, arith}
+use Rattle.std.proofs.Common.{◌≡◌, ℕ, ◌+◌, ◌*◌, ◌<◌, Bool, true, false, cond, ltb, List, map, length, take, drop, ℤ, pos, ◌+ℤ◌, nat_abs, sym, ap, ◌∙◌, inl, inr, ⊎_elim, mul_comm, add-mul, one-mul, mul-zero, zero-mul, mul-one, arith}
 use Rattle.std.specs.List.{range_with_len}
 use Rattle.std.proofs.lemmas.List.FromFn.{get_or-map-range_with_len, length-map-range_with_len}
 use Rattle.std.proofs.lemmas.List.{take_at}
@@ -119,14 +119,15 @@ pub always_fair : AlwaysFair
 always_fair tie law amount shares h = fair tie amount shares law h
 
 -- two lists that begin with the portions and the fractions
-pub fair_lists : (tie : Tie) → Lawful tie → (amount : ℕ) (shares : List Share) → 0 < all_weights shares
+pub fair_lists : (tie : Tie) → Lawful tie → (amount : ℤ) (n : ℕ) (shares : List Share) → amount ≡ pos n → 0 < all_weights shares
     → (out : List Minor) (owed : List Fraction) (out' : List Minor) (owed' : List Fraction)
-    → out' ≡ over (portions tie amount shares) out
-    → owed' ≡ over (fractions tie amount shares) owed
-    → Fair tie (pos amount) shares (take (length shares) out') (take (length shares) owed')
-fair_lists tie law amount shares h out owed out' owed' e f =
-    let a : take (length shares) out' ≡ portions tie amount shares =
-    ap (take (length shares)) e ∙ take_at (portions tie amount shares) (drop (length (portions tie amount shares)) out) (length shares) (length-portions tie amount shares) in
-    let b : take (length shares) owed' ≡ fractions tie amount shares =
-    ap (take (length shares)) f ∙ take_at (fractions tie amount shares) (drop (length (fractions tie amount shares)) owed) (length shares) (length-fractions tie amount shares) in
-    rw (a, b) (always_fair tie law amount shares h)
+    → out' ≡ over (portions tie (nat_abs amount) shares) out
+    → owed' ≡ over (fractions tie (nat_abs amount) shares) owed
+    → Fair tie amount shares (take (length shares) out') (take (length shares) owed')
+fair_lists tie law amount n shares z h out owed out' owed' e f =
+    let p = portions tie n shares in
+    let q = fractions tie n shares in
+    let e' = rw z at e in
+    let f' = rw z at f in
+    rw (z, e', f', take_at p (drop (length p) out) (length shares) (length-portions tie n shares), take_at q (drop (length q) owed) (length shares) (length-fractions tie n shares))
+    (always_fair tie law n shares h)

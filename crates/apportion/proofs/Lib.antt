@@ -6,6 +6,5 @@ pub mod Filled
 pub mod Order
 pub mod Passing
 pub mod Remainders
-pub mod Signed
 pub mod Sums
 pub mod Uniqueness

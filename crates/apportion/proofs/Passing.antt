@@ -1,6 +1,5 @@
 -- The check passes exactly what can be divided. Assumes nothing.
 use Rattle.std.proofs.Common.{◌≡◌, ℕ, zero, suc, ◌+◌, ◌<◌, ◌≤◌, Bool, true, false, cond, ◌||◌, eqb, ltb, List, [], ◌∷◌, length, ℤ, pos, negsuc, nat_abs, Ok, Err, Result, sym, refl, ap, ◌∙◌, subst, arith}
-use Rattle.std.proofs.lemmas.Int.{ints}
 use Rattle.std.proofs.lemmas.Bool.{false≢true, ltb-false, le-ltb, eqb-false, ne_eqb, or_parts, cond-true, cond-false}
 use Rattle.std.proofs.lemmas.Bool.Decides.{nat_tests}
 use Rattle.register.specs.Register.{BookFault}
@@ -88,7 +87,7 @@ admits n shares w d =
     let a = d.shares_least in
     let p = d.sum_least in
     let e = d.sum in
-    in_range_lem (pos n) shares (omega (arith, ints)) (omega (arith, ints)) (sym (ne_eqb (length shares) 0 (λ z. omega arith))) d.shares_most
+    in_range_lem (pos n) shares (grind (arith, nat_tests)) (sym (ne_eqb (length shares) 0 (λ z. omega arith))) d.shares_most
     ∙ each_passes 1 shares (some_weight shares) d.account d.weight
     ∙ weight_some shares (λ z. omega arith)
     ∙ ap Ok (sym e)

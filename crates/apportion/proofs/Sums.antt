@@ -1,9 +1,10 @@
 -- Sums of lists that are made place by place. Assumes nothing.
-use Rattle.std.proofs.Common.{◌≡◌, ℕ, zero, suc, ◌+◌, List, [], ◌∷◌, map, ℤ, pos, ◌+ℤ◌, ◌-ℤ◌, sym, refl, ap, ◌∙◌, add-one, arith}
+use Rattle.std.proofs.Common.{◌≡◌, ℕ, zero, suc, ◌+◌, List, map, ℤ, pos, ◌+ℤ◌, ◌-ℤ◌, sym, refl, ap, ◌∙◌, add-one, arith}
 use Rattle.std.specs.List.{range_with_len}
 use Rattle.std.proofs.lemmas.List.FromFn.{map-range_with_len_more}
 use Rattle.std.proofs.lemmas.Int.{ints}
 use Rattle.std.proofs.lemmas.List.Sums.{fold_push}
+use mathlib.Core.List.{map-map}
 use Rattle.apportion.specs.Laws.{int_sum}
 use Rattle.apportion.specs.Places.{sum_below}
 
@@ -15,10 +16,6 @@ int_sum_more h n =
 
 difference_add : (a b c d : ℕ) → (pos a -ℤ pos b) +ℤ (pos c -ℤ pos d) ≡ pos (a + c) -ℤ pos (b + d)
 difference_add a b c d = omega (arith, ints)
-
-map-map : {X Y Z : Type 0} (f : Y → Z) (g : X → Y) (l : List X) → map f (map g l) ≡ map (λ x. f (g x)) l
-map-map f g [] = refl
-map-map f g (x ∷ l) = ap (λ t. f (g x) ∷ t) (map-map f g l)
 
 pub int_sum-map : {X Y : Type 0} (f : Y → ℤ) (g : X → Y) (l : List X) → int_sum (map f (map g l)) ≡ int_sum (map (λ x. f (g x)) l)
 int_sum-map f g l = ap int_sum (map-map f g l)

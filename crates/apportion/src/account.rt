@@ -10,5 +10,5 @@ const LAST_NAMED: u64 = 127;
 pub fn is_named(account: u64) -> bool
     ensures { result ≡ named account }
 {
-    account >= FIRST_NAMED && account <= LAST_NAMED
+    (FIRST_NAMED..=LAST_NAMED).contains(&account)
 }

@@ -6,7 +6,7 @@ ghost use Rattle.apportion.specs.Refusals.{Checks, checked, each_share, some_wei
 use crate::account::is_named;
 use crate::share::Share;
 use money::{MOST_AMOUNT, Minor};
-use register::{BookCause, BookFault};
+use register::{BookCause, BookFault, Placed};
 
 /// The most shares that a split may have.
 pub const MOST_SHARES: usize = 15;
@@ -14,14 +14,8 @@ pub const MOST_SHARES: usize = 15;
 /// The largest weight of a share.
 pub const MOST_WEIGHT: u64 = 1_000_000;
 
-/// A refusal at a share, from 1, or at no place of its own: 0.
-pub(crate) fn refused(cause: BookCause, place: usize) -> BookFault
-    ensures { result ≡ record { cause = cause; place = place } }
-{
-    BookFault { cause, place }
-}
-
 /// W, the sum of the weights, or the first share that is refused, or a W of 0.
+#[tactic(auto, using(crate::proofs::Checks::shares_pass, crate::proofs::Checks::weights_all))]
 fn sum_of_weights(shares: &[Share]) -> Result<u64, BookFault>
     requires { length shares.now ≤ most_shares }
     ensures { book_answer result ≡ each_share 1 shares.now (some_weight shares.now) }
@@ -29,15 +23,15 @@ fn sum_of_weights(shares: &[Share]) -> Result<u64, BookFault>
     let mut sum = 0;
     for (i, share) in shares.iter().enumerate() {
         if !is_named(share.account) {
-            return Err(refused(BookCause::AccountNotNamed, i + 1));
+            return Err(Placed::at(BookCause::AccountNotNamed, i + 1));
         }
         if share.weight > MOST_WEIGHT {
-            return Err(refused(BookCause::Shares, i + 1));
+            return Err(Placed::at(BookCause::Shares, i + 1));
         }
         sum += share.weight;
     }
     if sum == 0 {
-        return Err(refused(BookCause::Shares, 0));
+        return Err(BookCause::Shares.into());
     }
     Ok(sum)
 }
@@ -47,11 +41,11 @@ pub fn check(amount: Minor, shares: &[Share]) -> Result<u64, BookFault>
     ensures value { book_answer result ≡ checked amount.0 shares.now }
     ensures exactly { Checks amount.0 shares.now result }
 {
-    if amount.0 < 1 || amount.0 > MOST_AMOUNT {
-        return Err(refused(BookCause::AmountOutOfRange, 0));
+    if !(1..=MOST_AMOUNT).contains(&amount.0) {
+        return Err(BookCause::AmountOutOfRange.into());
     }
     if shares.is_empty() || shares.len() > MOST_SHARES {
-        return Err(refused(BookCause::Shares, 0));
+        return Err(BookCause::Shares.into());
     }
     sum_of_weights(shares)
 }

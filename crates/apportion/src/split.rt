@@ -3,22 +3,25 @@ ghost use Rattle.std.specs.Prelude.{◌≡◌, ◌<◌, ◌≤◌, length, take,
 ghost use Rattle.register.specs.Register.{book_answer};
 ghost use Rattle.money.specs.Conversions.{minors};
 ghost use Rattle.apportion.specs.Laws.{Fair};
+ghost use Rattle.apportion.specs.Places.{sum_below};
 ghost use Rattle.apportion.specs.Refusals.{Divisible, verdict};
 ghost use Rattle.apportion.specs.Splits.{quotient, remainder, units_left, before, rank, candidate_at, portion, fraction, fraction_of, portions as portions_of, fractions as fractions_of, over};
 
 use crate::fraction::Fraction;
-use crate::limits::{check, refused};
+use crate::limits::check;
 use crate::share::{Candidate, Share};
 use crate::tie::TieRule;
 use money::Minor;
 use register::{BookCause, BookFault};
 
-/// An amount and its shares, which passed the check, and the sum of their weights.
-#[derive(Clone, Copy)]
-struct Division<'a> {
+/// An amount and its shares, which passed the check, the sum of their weights, and the rule for ties.
+#[derive(Drop)]
+struct Division<'a, R> {
+    rule: &'a R,
     amount: u64,
     shares: &'a [Share],
     weights: u64,
+    ghost divisible: { Divisible amount shares.now weights },
 }
 
 /// What a share gets: whole units, and by how much they miss its exact part.
@@ -28,41 +31,46 @@ struct Part {
     fraction: Fraction,
 }
 
-impl<'a> Division<'a> {
+impl<'a, R: TieRule> Division<'a, R> {
     /// What the share at place `i` first gets: its exact part rounded down.
-    fn quotient(self, i: usize) -> u64
-        requires divisible { Divisible self.amount self.shares.now self.weights }
-        requires within { i < length self.shares.now }
-        ensures { result ≡ quotient self.entry.amount self.entry.shares.now i }
+    #[tactic(auto, using(crate::proofs::Bounds::quotient_small), unfolding(crate::specs::Splits::quotient))]
+    fn quotient(&self, i: usize) -> u64
+        requires { i < length self.now.shares.now }
+        ensures value { result ≡ quotient self.now.amount self.now.shares.now i }
+        ensures most { result ≤ self.now.amount }
     {
         self.amount * self.shares[i].weight / self.weights
     }
 
     /// What that leaves of the exact part, in parts of 1 ÷ W.
-    fn remainder(self, i: usize) -> u64
-        requires divisible { Divisible self.amount self.shares.now self.weights }
-        requires within { i < length self.shares.now }
-        ensures { result ≡ remainder self.entry.amount self.entry.shares.now i }
+    #[tactic(auto, unfolding(crate::specs::Splits::remainder))]
+    fn remainder(&self, i: usize) -> u64
+        requires { i < length self.now.shares.now }
+        ensures value { result ≡ remainder self.now.amount self.now.shares.now i }
+        ensures below { result < self.now.weights }
     {
         self.amount * self.shares[i].weight % self.weights
     }
 
-    /// The units left when every share has what it first gets.
-    fn units_left(self) -> u64
-        requires { Divisible self.amount self.shares.now self.weights }
-        ensures { result ≡ units_left self.entry.amount self.entry.shares.now }
+    /// The units that all shares first get.
+    fn units_given(&self) -> u64
+        ensures { result ≡ sum_below (quotient self.now.amount self.now.shares.now) (length self.now.shares.now) }
     {
-        let mut given = 0;
-        for i in 0..self.shares.len() {
-            given += self.quotient(i);
-        }
-        self.amount - given
+        (0..self.shares.len()).map(|i| self.quotient(i)).sum()
+    }
+
+    /// The units left when every share has what it first gets.
+    #[tactic(auto, using(crate::proofs::Bounds::units_within), unfolding(crate::specs::Splits::units_left))]
+    fn units_left(&self) -> u64
+        ensures { result ≡ units_left self.now.amount self.now.shares.now }
+    {
+        self.amount - self.units_given()
     }
 
     /// The share at a place as a tie rule sees it.
-    fn candidate(self, place: usize) -> Candidate
-        requires { place < length self.shares.now }
-        ensures { result ≡ candidate_at self.entry.shares.now place }
+    fn candidate(&self, place: usize) -> Candidate
+        requires { place < length self.now.shares.now }
+        ensures { result ≡ candidate_at self.now.shares.now place }
     {
         let Share { account, weight } = self.shares[place];
         Candidate {
@@ -73,47 +81,42 @@ impl<'a> Division<'a> {
     }
 
     /// Whether the share at place `i` comes before that at place `j`.
-    fn comes_before<R: TieRule>(self, rule: &R, i: usize, j: usize) -> bool
-        requires divisible { Divisible self.amount self.shares.now self.weights }
-        requires one { i < length self.shares.now }
-        requires other { j < length self.shares.now }
-        ensures { result ≡ before (R.TieRule.tie rule.now) self.entry.amount self.entry.shares.now i j }
+    #[tactic(auto, unfolding(crate::specs::Splits::before))]
+    fn comes_before(&self, i: usize, j: usize) -> bool
+        requires one { i < length self.now.shares.now }
+        requires other { j < length self.now.shares.now }
+        ensures { result ≡ before (R.TieRule.tie self.now.rule.now) self.now.amount self.now.shares.now i j }
     {
         let x = self.remainder(i);
         let y = self.remainder(j);
         if x == y {
-            rule.ahead(self.candidate(i), self.candidate(j))
+            self.rule.ahead(self.candidate(i), self.candidate(j))
         } else {
             x > y
         }
     }
 
     /// How many shares come before that at place `i`.
-    fn rank<R: TieRule>(self, rule: &R, i: usize) -> u64
-        requires divisible { Divisible self.amount self.shares.now self.weights }
-        requires within { i < length self.shares.now }
-        ensures { result ≡ rank (R.TieRule.tie rule.now) self.entry.amount self.entry.shares.now i }
+    fn rank(&self, i: usize) -> u64
+        requires { i < length self.now.shares.now }
+        ensures { result ≡ rank (R.TieRule.tie self.now.rule.now) self.now.amount self.now.shares.now i }
     {
-        let mut rank = 0;
-        for k in 0..self.shares.len() {
-            if self.comes_before(rule, k, i) {
-                rank += 1;
-            }
-        }
-        rank
+        // Summed, since `filter(..).count()` takes six times as long.
+        (0..self.shares.len())
+            .map(|k| u64::from(self.comes_before(k, i)))
+            .sum()
     }
 
     /// What the share at place `i` gets where so many units are left.
-    fn part<R: TieRule>(self, rule: &R, left: u64, i: usize) -> Part
-        requires divisible { Divisible self.amount self.shares.now self.weights }
-        requires left { left ≡ units_left self.amount self.shares.now }
-        requires within { i < length self.shares.now }
-        ensures portion { result.portion ≡ minors (portion (R.TieRule.tie rule.now) self.entry.amount self.entry.shares.now i) }
-        ensures fraction { result.fraction ≡ fraction_of (fraction (R.TieRule.tie rule.now) self.entry.amount self.entry.shares.now i) }
+    fn part(&self, left: u64, i: usize) -> Part
+        requires left { left ≡ units_left self.now.amount self.now.shares.now }
+        requires within { i < length self.now.shares.now }
+        ensures portion { result.portion ≡ minors (portion (R.TieRule.tie self.now.rule.now) self.now.amount self.now.shares.now i) }
+        ensures fraction { result.fraction ≡ fraction_of (fraction (R.TieRule.tie self.now.rule.now) self.now.amount self.now.shares.now i) }
     {
         let quotient = self.quotient(i) as i64;
         let remainder = self.remainder(i) as i64;
-        if self.rank(rule, i) < left {
+        if self.rank(i) < left {
             Part {
                 portion: Minor(quotient + 1),
                 fraction: Fraction(remainder - self.weights as i64),
@@ -127,16 +130,16 @@ impl<'a> Division<'a> {
     }
 
     /// Writes every portion and every fraction to the front of two lists that are long enough.
-    fn fill<R: TieRule>(self, rule: &R, portions: &mut [Minor], fractions: &mut [Fraction])
-        requires divisible { Divisible self.amount self.shares.now self.weights }
-        requires portions { length self.shares.now ≤ length portions.old }
-        requires fractions { length self.shares.now ≤ length fractions.old }
-        ensures portions { portions.new ≡ over (portions_of (R.TieRule.tie rule.now) self.entry.amount self.entry.shares.now) portions.old }
-        ensures fractions { fractions.new ≡ over (fractions_of (R.TieRule.tie rule.now) self.entry.amount self.entry.shares.now) fractions.old }
+    fn fill(&self, portions: &mut [Minor], fractions: &mut [Fraction])
+        requires portions { length self.now.shares.now ≤ length portions.old }
+        requires fractions { length self.now.shares.now ≤ length fractions.old }
+        ensures portions { portions.new ≡ over (portions_of (R.TieRule.tie self.now.rule.now) self.now.amount self.now.shares.now) portions.old }
+        ensures fractions { fractions.new ≡ over (fractions_of (R.TieRule.tie self.now.rule.now) self.now.amount self.now.shares.now) fractions.old }
     {
         let left = self.units_left();
+        // By index: of lists that are written through `iter_mut().zip(..)` a proof knows the lengths alone.
         for i in 0..self.shares.len() {
-            let part = self.part(rule, left, i);
+            let part = self.part(left, i);
             portions[i] = part.portion;
             fractions[i] = part.fraction;
         }
@@ -160,13 +163,14 @@ pub fn apportion<R: TieRule>(
 {
     let weights = check(amount, shares)?;
     if portions.len() < shares.len() || fractions.len() < shares.len() {
-        return Err(refused(BookCause::ListsTooShort, 0));
+        return Err(BookCause::ListsTooShort.into());
     }
     let division = Division {
+        rule,
         amount: amount.0 as u64,
         shares,
         weights,
     };
-    division.fill(rule, portions, fractions);
+    division.fill(portions, fractions);
     Ok(())
 }

@@ -4,6 +4,7 @@ ghost use Rattle.apportion.specs.Ties.{Tie, Lawful, by_place, by_weight};
 ghost use Rattle.std.proofs.Common.{rules};
 
 use crate::share::Candidate;
+use std::cmp::Reverse;
 
 /// A tie rule: it looks at weight, account and place of two shares.
 pub trait TieRule {
@@ -42,10 +43,6 @@ impl TieRule for LargerWeight {
     ghost lawful = { Prim.search rules };
 
     fn ahead(&self, a: Candidate, b: Candidate) -> bool {
-        if a.weight == b.weight {
-            a.place < b.place
-        } else {
-            a.weight > b.weight
-        }
+        (Reverse(a.weight), a.place) < (Reverse(b.weight), b.place)
     }
 }
