@@ -1,0 +1,30 @@
+-- The transcript of what was read is that of what the stream held. Assumes nothing.
+use Rattle.std.proofs.Common.{◌≡◌, [], string_bytes, IfSome, ◌∙◌, ap, rules}
+use Rattle.requests.specs.Requests.{ruled}
+use Rattle.book.specs.View.{state_of}
+use Rattle.runner.proofs.Steps.{none_done}
+use Rattle.runner.proofs.Reading.{front, read_is, run_done, written, moved}
+use Rattle.runner.proofs.streams.run_streams.Goals as goal
+use Rattle.runner.proofs.streams.run_streams.Given as given
+use Rattle.runner.proofs.streams.run_streams.Goals.{After-write_all}
+
+pub returns-in_err-read_to_end-clause-law : goal.returns-in_err-read_to_end-clause-law
+returns-in_err-read_to_end-clause-law g c law = ([], none_done (ruled law) _ [])
+
+pub returns-clause-transcript : goal.returns-clause-transcript
+returns-clause-transcript g c law =
+    let s = state_of g.L.Balances c.args.book.now in
+    written (ruled law) s _ _ _ _ _ _
+    (read_is (ruled law) s _ _ _ _ _ (ap g.I.Read.remaining c.take.ensures.inner) c.take.ensures.limit c.new-bytes.ensures.items c.in_ok-read_to_end.ensures.bytes)
+    (search rules)
+    c.write_all.ensures.bytes
+
+pub returns-clause-state : goal.returns-clause-state
+returns-clause-state g c law =
+    let s = state_of g.L.Balances c.args.book.now in
+    moved (ruled law) s _ _ _ _
+    (read_is (ruled law) s _ _ _ _ _ (ap g.I.Read.remaining c.take.ensures.inner) c.take.ensures.limit c.new-bytes.ensures.items c.in_ok-read_to_end.ensures.bytes)
+    (search rules)
+
+pub returns-clause-law : goal.returns-clause-law
+returns-clause-law g c law = (_, run_done (ruled law) _ _ _ (c.in_ok-run.ensures.state law))
