@@ -8,3 +8,4 @@ pub mod Numbers
 pub mod Requests
 pub mod Words
 pub mod Writing
+pub mod Numbered

@@ -14,7 +14,7 @@ use crate::text::append;
 use apportion::TieRule;
 use book::Book;
 use ledger::Ledger;
-use reader::cut_line;
+use reader::Lines;
 use register::Fault;
 use requests::{Reply, perform_line};
 use std::alloc::AllocError;
@@ -74,14 +74,9 @@ pub(crate) fn answer_lines<L: Ledger, R: TieRule>(
     ensures done { (law : Lawful (R.TieRule.tie rule.now)) → MatchResult result (λ _. AllDone (ruled law) (state_of L.Balances book.old) (state_of L.Balances book.new) input.now (string_bytes transcript.old) (string_bytes transcript.new)) (λ _. SomeDone (ruled law) (state_of L.Balances book.old) (state_of L.Balances book.new) input.now) }
     ensures empty { length input.now ≡ 0 → result ≡ Ok tt }
 {
-    let mut rest = input;
-    let mut number: u64 = 1;
-    while !rest.is_empty() {
-        let (line, more) = cut_line(rest);
+    for (number, line) in Lines::of(input) {
         let outcome = perform_line(book, rule, line);
         write_answer(transcript, number, outcome)?;
-        number += 1;
-        rest = more;
     }
     Ok(())
 }

@@ -8,7 +8,7 @@ ghost use Rattle.runner.specs.Audit.{cells_of, cells_below, audit_text};
 
 use crate::text::append;
 use book::Book;
-use ledger::{ACCOUNTS, COLUMNS, Ledger};
+use ledger::{ACCOUNTS, Ledger};
 use model::{Audit, Record};
 use std::alloc::AllocError;
 use transcript::{Cell, End, Heading, Open};
@@ -25,17 +25,14 @@ fn write_account<L: Ledger>(
 {
     let row = book.row(account);
     let mut cells = 0;
-    for column in 0..COLUMNS {
-        let amount = row[column as usize];
-        if amount != 0 {
-            append(
-                transcript,
-                Cell {
-                    account,
-                    column,
-                    amount,
-                },
-            )?;
+    for (column, amount) in row.iter().enumerate() {
+        if *amount != 0 {
+            let cell = Cell {
+                account,
+                column: column as u64,
+                amount: *amount,
+            };
+            append(transcript, cell)?;
             cells += 1;
         }
     }

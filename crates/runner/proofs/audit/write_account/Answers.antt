@@ -3,7 +3,7 @@ use Rattle.std.proofs.Common.{◌≡◌, ℕ, ◌+◌, true, false, List, ◌++�
 use Rattle.std.proofs.lemmas.Int.{to_z-of_z}
 use Rattle.std.specs.List.{flat_map}
 use Rattle.ledger.specs.Entries.{is_zero}
-use Rattle.ledger.proofs.Meanings.{row_reads}
+use Rattle.ledger.proofs.Meanings.{row_length, row_reads}
 use Rattle.transcript.specs.declared.audit.Cell.{Cell}
 use Rattle.transcript.specs.Text.{cell_text}
 use Rattle.book.specs.View.{state_of}
@@ -29,7 +29,7 @@ loop-column-preserved g c =
     let row = c.row-row.result in
     let amount = get_or row k (pos 0) in
     let fits : SFits w64 amount = search rules in
-    let is : amount ≡ s.ledger.cell a k = ap (λ (xs : List ℤ). get_or xs k (pos 0)) c.row-row.ensures.value ∙ row_reads s.ledger a k (pos 0) c.loop-column-test.true in
+    let is : amount ≡ s.ledger.cell a k = ap (λ (xs : List ℤ). get_or xs k (pos 0)) c.row-row.ensures.value ∙ row_reads s.ledger a k (pos 0) (omega (arith, c.loop-column-test.true, ap length c.row-row.ensures.value, row_length s.ledger a)) in
     elim c.if-amount-ne0.branch [
       | then-amount-ne0+in_ok-append w ↦
           let some : is_zero (s.ledger.cell a k) ≡ false = ap is_zero (sym is) ∙ not_zero amount (λ (e : amount ≡ pos 0). w.if-amount-ne0.true (ap (of_z w64) e)) in
