@@ -1,16 +1,17 @@
 -- How an input is cut into lines. Assumes nothing.
-use Rattle.std.proofs.Common.{◌≡◌, ℕ, suc, ◌+◌, ◌<◌, true, false, cond, eqb, List, [], ◌∷◌, ◌++◌, length, take, drop, sym, refl, ap, ◌∙◌, subst, inl, inr, ⊎_elim, arith, length-drop}
-use Rattle.std.proofs.lemmas.Bool.{eqb-true, eqb-false, cond-false, cond-true, cases_Bool, cases_lt, cond_both}
+use Rattle.std.proofs.Common.{◌≡◌, ℕ, suc, ◌+◌, ◌<◌, true, false, cond, eqb, List, [], ◌∷◌, ◌++◌, length, take, drop, sym, refl, ap, ◌∙◌, subst, inl, inr, ⊎_elim, arith}
+use Rattle.std.proofs.lemmas.Bool.{eqb-false, cases_lt, cond_both}
 use Rattle.std.proofs.lemmas.List.{take_all, drop_all}
 use Rattle.reader.specs.Bytes.{before, newline}
 use Rattle.reader.specs.Lines.{onto, lines_of, OneLine, Cut}
+use Rattle.reader.proofs.Parts.{before_joins}
 
 lines_on : (b : ℕ) (bs : List ℕ) → (0 < length bs → lines_of bs ≡ take (before newline bs) bs ∷ lines_of (drop (suc (before newline bs)) bs)) → onto b (lines_of bs) ≡ (b ∷ take (before newline bs) bs) ∷ lines_of (drop (suc (before newline bs)) bs)
 lines_on b [] h = refl
 lines_on b (x ∷ bs) h = ap (onto b) (h (omega arith))
 
 -- the first line ends at the first byte 10, which belongs to no line
-pub lines_cut : (bs : List ℕ) → 0 < length bs → lines_of bs ≡ take (before newline bs) bs ∷ lines_of (drop (suc (before newline bs)) bs)
+lines_cut : (bs : List ℕ) → 0 < length bs → lines_of bs ≡ take (before newline bs) bs ∷ lines_of (drop (suc (before newline bs)) bs)
 lines_cut [] h = absurd (omega arith)
 lines_cut (b ∷ bs) h =
     elim (eqb b newline) as (λ t. cond t ([] ∷ lines_of bs) (onto b (lines_of bs)) ≡ take (cond t 0 (suc (before newline bs))) (b ∷ bs) ∷ lines_of (drop (suc (cond t 0 (suc (before newline bs)))) (b ∷ bs)))
@@ -22,32 +23,12 @@ lines_first bs l r p q h =
     let q' : r ≡ drop (suc (before newline bs)) bs = q ∙ ap (λ k. drop k bs) up in
     lines_cut bs h ∙ (λ i. sym p i ∷ lines_of (sym q' i))
 
-pub rest_shorter : (bs r : List ℕ) → r ≡ drop (before newline bs + 1) bs → 0 < length bs → length r < length bs
-rest_shorter bs r q h = omega (arith, ap length q ∙ length-drop (before newline bs + 1) bs)
-
 before_whole : (bs : List ℕ) → OneLine (take (before newline bs) bs)
 before_whole [] = tt
 before_whole (b ∷ bs) =
     cond_both (eqb b newline) 0 (suc (before newline bs)) (λ k. OneLine (take k (b ∷ bs)))
     (λ e. tt)
     (λ e. (eqb-false b newline e, before_whole bs))
-
--- the bytes before the first s, that s, and what follows it
-pub before_joins : (s : ℕ) (bs : List ℕ) → before s bs < length bs → bs ≡ take (before s bs) bs ++ (s ∷ drop (before s bs + 1) bs)
-before_joins s [] h = absurd (omega arith)
-before_joins s (b ∷ bs) h =
-    ⊎_elim
-    (λ e.
-    ap (λ x. x ∷ bs) (eqb-true b s e)
-    ∙ ap (λ k. take k (b ∷ bs) ++ (s ∷ drop (k + 1) (b ∷ bs))) (sym (cond-true (eqb b s) 0 (suc (before s bs)) e)))
-    (λ e.
-    let k = cond-false (eqb b s) 0 (suc (before s bs)) e in
-    let less : suc (before s bs) < suc (length bs) = subst (λ n. n < suc (length bs)) k h in
-    let up : suc (before s bs + 1) ≡ suc (before s bs) + 1 = omega arith in
-    ap (λ l. b ∷ l) (before_joins s bs (omega arith))
-    ∙ ap (λ n. b ∷ (take (before s bs) bs ++ (s ∷ drop n (b ∷ bs)))) up
-    ∙ ap (λ k. take k (b ∷ bs) ++ (s ∷ drop (k + 1) (b ∷ bs))) (sym k))
-    (cases_Bool (eqb b s))
 
 -- the first line and the rest are what the input was
 pub line_cut : (bs l r : List ℕ) → l ≡ take (before newline bs) bs → r ≡ drop (before newline bs + 1) bs → Cut bs l r

@@ -3,7 +3,6 @@ mod Covering
 mod Cuts
 mod Parts
 mod Patterns
-mod Readings
 mod Refusing
 mod Rejoining
 mod Spelling

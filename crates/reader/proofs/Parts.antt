@@ -1,7 +1,7 @@
 -- A text, parted at the first byte of a kind. Assumes nothing.
-use Rattle.std.proofs.Common.{◌≡◌, ℕ, suc, ◌+◌, ◌-◌, ◌<◌, ◌≤◌, true, false, cond, eqb, ltb, List, [], ◌∷◌, length, take, drop, Some, None, Option, sym, refl, ap, ◌∙◌, ⊎_elim, arith}
+use Rattle.std.proofs.Common.{◌≡◌, ℕ, suc, ◌+◌, ◌-◌, ◌<◌, ◌≤◌, true, false, cond, eqb, ltb, List, [], ◌∷◌, ◌++◌, length, take, drop, Some, None, Option, sym, refl, ap, ◌∙◌, subst, ⊎_elim, arith}
 use Rattle.std.specs.List.{position, position_or_len}
-use Rattle.std.proofs.lemmas.Bool.{cond-true, lt-ltb, ltb-true, cases_lt}
+use Rattle.std.proofs.lemmas.Bool.{eqb-true, cond-true, cond-false, lt-ltb, ltb-true, cases_Bool, cases_lt}
 use Rattle.std.proofs.lemmas.List.{take_rest}
 use Rattle.std.proofs.lemmas.List.Recursion.{is_position_or_len}
 use Rattle.std.proofs.lemmas.Option.{cond_some, none-some}
@@ -15,6 +15,23 @@ before_le s [] = omega arith
 before_le s (b ∷ bs) =
     let h = before_le s bs in
     elim (eqb b s) as (λ t. cond t 0 (suc (before s bs)) ≤ suc (length bs)) [ true ↦ omega arith | false ↦ omega arith ]
+
+-- the bytes before the first s, that s, and what follows it
+pub before_joins : (s : ℕ) (bs : List ℕ) → before s bs < length bs → bs ≡ take (before s bs) bs ++ (s ∷ drop (before s bs + 1) bs)
+before_joins s [] h = absurd (omega arith)
+before_joins s (b ∷ bs) h =
+    ⊎_elim
+    (λ e.
+    ap (λ x. x ∷ bs) (eqb-true b s e)
+    ∙ ap (λ k. take k (b ∷ bs) ++ (s ∷ drop (k + 1) (b ∷ bs))) (sym (cond-true (eqb b s) 0 (suc (before s bs)) e)))
+    (λ e.
+    let k = cond-false (eqb b s) 0 (suc (before s bs)) e in
+    let less : suc (before s bs) < suc (length bs) = subst (λ n. n < suc (length bs)) k h in
+    let up : suc (before s bs + 1) ≡ suc (before s bs) + 1 = omega arith in
+    ap (λ l. b ∷ l) (before_joins s bs (omega arith))
+    ∙ ap (λ n. b ∷ (take (before s bs) bs ++ (s ∷ drop n (b ∷ bs)))) up
+    ∙ ap (λ k. take k (b ∷ bs) ++ (s ∷ drop (k + 1) (b ∷ bs))) (sym k))
+    (cases_Bool (eqb b s))
 
 module _ (s : ℕ) (bs : List ℕ) (r : Option ℕ) (is : r ≡ position (λ b. eqb b s) bs) where
   pub parted_at : (n : ℕ) → r ≡ Some n → Parted s bs (take n bs) (take (length bs - (n + 1)) (drop (n + 1) bs))

@@ -43,26 +43,17 @@ and_then (Err e) f = Err e
 -- the number that a word of that kind is
 abbrev pub as_number : ℕ → Kind → Result ℕ Refusal
 as_number c (number n) = Ok n
-as_number c name = Err (unreadable c)
-as_number c (signed z) = Err (unreadable c)
-as_number c (code bs) = Err (unreadable c)
-as_number c (pair m n) = Err (unreadable c)
+as_number c _ = Err (unreadable c)
 
 -- the amount that a signed number is
 abbrev pub as_signed : ℕ → Kind → Result Minor Refusal
 as_signed c (signed z) = Ok (record { 0 = z })
-as_signed c name = Err (unreadable c)
-as_signed c (number n) = Err (unreadable c)
-as_signed c (code bs) = Err (unreadable c)
-as_signed c (pair m n) = Err (unreadable c)
+as_signed c _ = Err (unreadable c)
 
 -- the account and the weight that a pair is
 abbrev pub as_share : ℕ → Kind → Result Share Refusal
 as_share c (pair m n) = Ok (record { account = m; weight = n })
-as_share c name = Err (unreadable c)
-as_share c (number n) = Err (unreadable c)
-as_share c (signed z) = Err (unreadable c)
-as_share c (code bs) = Err (unreadable c)
+as_share c _ = Err (unreadable c)
 
 -- the number of a currency that the table has
 abbrev pub number_if_known : ℕ → Option Currency → Result ℕ Refusal
@@ -72,10 +63,7 @@ number_if_known c None = Err (unreadable c)
 -- the number of the currency whose code a word is
 abbrev pub as_currency : ℕ → Kind → Result ℕ Refusal
 as_currency c (code bs) = number_if_known c (coded bs)
-as_currency c name = Err (unreadable c)
-as_currency c (number n) = Err (unreadable c)
-as_currency c (signed z) = Err (unreadable c)
-as_currency c (pair m n) = Err (unreadable c)
+as_currency c _ = Err (unreadable c)
 
 -- what a word says where a number, an amount, a signed amount, a currency or a share is asked for; a word of another
 -- kind is refused at its column

@@ -1,5 +1,5 @@
 //! What a word's bytes say: a number, a signed number, a code or a pair.
-ghost use Rattle.std.specs.Prelude.{◌≡◌, ◌^◌, ◌<◌, ◌≤◌, length, pos, IfSome};
+ghost use Rattle.std.specs.Prelude.{◌≡◌, ◌≤◌, length, pos};
 ghost use Rattle.reader.specs.Limits.{most_digits};
 ghost use Rattle.reader.specs.Numbers.{digits_after, number_in, signed_in, code_in, pair_in};
 

@@ -57,6 +57,7 @@ fn read_posting(words: &[Word<'_>]) -> Result<Posting, ReaderFault>
     })
 }
 
+// The bound on the words stays a clause, here and below: no type of a slice says how long it is.
 fn read_post(words: &[Word<'_>]) -> Result<Request, ReaderFault>
     requires { length words.now < most_words }
     ensures { given_by asked (reader_answer result) ≡ read_as (Some Verb.Post) (map view words.now) }
