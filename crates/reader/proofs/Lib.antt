@@ -1,11 +1,11 @@
 mod Answering
 mod Covering
 mod Cuts
-mod Filling
+mod Parts
 mod Patterns
-mod Readings
 mod Refusing
 mod Rejoining
 mod Spelling
+mod Splitting
 mod Texts
 mod Written

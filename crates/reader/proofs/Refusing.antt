@@ -7,9 +7,9 @@ use Rattle.money.specs.Table.{coded}
 use Rattle.money.specs.declared.currency.Currency.{Currency}
 use Rattle.reader.specs.declared.pattern.Verb.{Verb}
 use Rattle.reader.specs.declared.pattern.Verb.TheVariants.{Post, Conv, Split, Carry, Sweep}
-use Rattle.reader.specs.Kinds.{Kind, name, number, signed, code, pair, kind_of, read_piece}
+use Rattle.reader.specs.Kinds.{Kind, number, signed, code, pair, kind_of, read_piece}
 use Rattle.reader.specs.Limits.{most_words}
-use Rattle.reader.specs.Requests.{Asked, post, carry, sweep, and_then, put_first, as_number, as_signed, as_share, as_currency, number_if_known, number_at, amount_at, signed_at, currency_at, share_at, posting_of, postings_of, shares_of, verb_of, read_as, read_words, read_line, read_post, read_conv, read_split, read_carry, read_sweep, unknown_pattern}
+use Rattle.reader.specs.Requests.{Asked, post, carry, sweep, and_then, put_first, as_number, as_signed, as_share, as_currency, number_if_known, number_at, amount_at, signed_at, currency_at, share_at, posting_of, postings_of, shares_of, word_at, verb_of, read_as, read_words, read_line, read_post, read_conv, read_split, read_carry, read_sweep, unknown_pattern}
 use Rattle.reader.specs.Words.{Piece, words_of}
 use Rattle.reader.specs.Writing.{RefusedAt}
 
@@ -40,24 +40,15 @@ more_rightly w ws (Err e) (inr o) = inr (inr o)
 
 number_rightly : (w : Piece) (k : Kind) → Rightly (w ∷ []) (as_number w.column k)
 number_rightly w (number n) = tt
-number_rightly w name = inr (inl refl)
-number_rightly w (signed z) = inr (inl refl)
-number_rightly w (code bs) = inr (inl refl)
-number_rightly w (pair m n) = inr (inl refl)
+number_rightly w _ = inr (inl refl)
 
 signed_rightly : (w : Piece) (k : Kind) → Rightly (w ∷ []) (as_signed w.column k)
 signed_rightly w (signed z) = tt
-signed_rightly w name = inr (inl refl)
-signed_rightly w (number n) = inr (inl refl)
-signed_rightly w (code bs) = inr (inl refl)
-signed_rightly w (pair m n) = inr (inl refl)
+signed_rightly w _ = inr (inl refl)
 
 share_rightly : (w : Piece) (k : Kind) → Rightly (w ∷ []) (as_share w.column k)
 share_rightly w (pair m n) = tt
-share_rightly w name = inr (inl refl)
-share_rightly w (number n) = inr (inl refl)
-share_rightly w (signed z) = inr (inl refl)
-share_rightly w (code bs) = inr (inl refl)
+share_rightly w _ = inr (inl refl)
 
 known_rightly : (w : Piece) (o : Option Currency) → Rightly (w ∷ []) (number_if_known w.column o)
 known_rightly w (Some k) = tt
@@ -65,10 +56,7 @@ known_rightly w None = inr (inl refl)
 
 currency_rightly : (w : Piece) (k : Kind) → Rightly (w ∷ []) (as_currency w.column k)
 currency_rightly w (code bs) = known_rightly w (coded bs)
-currency_rightly w name = inr (inl refl)
-currency_rightly w (number n) = inr (inl refl)
-currency_rightly w (signed z) = inr (inl refl)
-currency_rightly w (pair m n) = inr (inl refl)
+currency_rightly w _ = inr (inl refl)
 
 -- the first word of some is one of them
 first_rightly : {X : Type 0} (w : Piece) (ws : List Piece) (r : Result X Refusal) → Rightly (w ∷ []) r → Rightly (w ∷ ws) r
@@ -125,10 +113,11 @@ shares_rightly [] = tt
 shares_rightly (w ∷ ws) =
     next_rightly w ws (share_at (read_piece w)) _ (at_share w ws) (λ s. put_rightly ws s (shares_of (map read_piece ws)) (shares_rightly ws))
 
-both_rightly : (a b : Piece) (f : ℕ → ℕ → Asked) → Rightly (a ∷ b ∷ []) (and_then (number_at (read_piece a)) (λ m. and_then (number_at (read_piece b)) (λ n. Ok (f m n))))
-both_rightly a b f =
+both_rightly : (f : ℕ → ℕ → Asked) (ws : List Piece) → length (map read_piece ws) ≡ 2 → Rightly ws (and_then (number_at (word_at (map read_piece ws) 0)) (λ m. and_then (number_at (word_at (map read_piece ws) 1)) (λ n. Ok (f m n))))
+both_rightly f (a ∷ b ∷ []) h =
     next_rightly a (b ∷ []) (number_at (read_piece a)) _ (at_number a (b ∷ [])) (λ m.
     next_rightly b [] (number_at (read_piece b)) _ (at_number b []) (λ n. tt))
+both_rightly f _ h = absurd (omega arith)
 
 conv_rightly : (ws : List Piece) → length (map read_piece ws) ≡ 5 → Rightly ws (read_conv (map read_piece ws))
 conv_rightly (a ∷ b ∷ c ∷ d ∷ z ∷ []) h =
@@ -137,12 +126,7 @@ conv_rightly (a ∷ b ∷ c ∷ d ∷ z ∷ []) h =
     next_rightly c (d ∷ z ∷ []) (currency_at (read_piece c)) _ (at_currency c (d ∷ z ∷ [])) (λ source.
     next_rightly d (z ∷ []) (currency_at (read_piece d)) _ (at_currency d (z ∷ [])) (λ target.
     next_rightly z [] (amount_at (read_piece z)) _ (at_amount z []) (λ amount. tt)))))
-conv_rightly [] h = absurd (omega arith)
-conv_rightly (a ∷ []) h = absurd (omega arith)
-conv_rightly (a ∷ b ∷ []) h = absurd (omega arith)
-conv_rightly (a ∷ b ∷ c ∷ []) h = absurd (omega arith)
-conv_rightly (a ∷ b ∷ c ∷ d ∷ []) h = absurd (omega arith)
-conv_rightly (a ∷ b ∷ c ∷ d ∷ z ∷ x ∷ ws) h = absurd (omega arith)
+conv_rightly _ h = absurd (omega arith)
 
 split_rightly : (ws : List Piece) → 3 ≤ length (map read_piece ws) → Rightly ws (read_split (map read_piece ws))
 split_rightly (a ∷ c ∷ z ∷ ws) h =
@@ -150,21 +134,7 @@ split_rightly (a ∷ c ∷ z ∷ ws) h =
     next_rightly c (z ∷ ws) (currency_at (read_piece c)) _ (at_currency c (z ∷ ws)) (λ currency.
     next_rightly z ws (amount_at (read_piece z)) _ (at_amount z ws) (λ amount.
     then_rightly ws (shares_of (map read_piece ws)) _ (shares_rightly ws) (λ shares. tt))))
-split_rightly [] h = absurd (omega arith)
-split_rightly (a ∷ []) h = absurd (omega arith)
-split_rightly (a ∷ b ∷ []) h = absurd (omega arith)
-
-carry_rightly : (ws : List Piece) → length (map read_piece ws) ≡ 2 → Rightly ws (read_carry (map read_piece ws))
-carry_rightly (a ∷ b ∷ []) h = both_rightly a b carry
-carry_rightly [] h = absurd (omega arith)
-carry_rightly (a ∷ []) h = absurd (omega arith)
-carry_rightly (a ∷ b ∷ c ∷ ws) h = absurd (omega arith)
-
-sweep_rightly : (ws : List Piece) → length (map read_piece ws) ≡ 2 → Rightly ws (read_sweep (map read_piece ws))
-sweep_rightly (a ∷ b ∷ []) h = both_rightly a b sweep
-sweep_rightly [] h = absurd (omega arith)
-sweep_rightly (a ∷ []) h = absurd (omega arith)
-sweep_rightly (a ∷ b ∷ c ∷ ws) h = absurd (omega arith)
+split_rightly _ h = absurd (omega arith)
 
 as_rightly : (v : Option Verb) (ws : List Piece) → Rightly ws (read_as v (map read_piece ws))
 as_rightly None ws = inl refl
@@ -176,9 +146,9 @@ as_rightly (Some Conv) ws =
 as_rightly (Some Split) ws =
     cond_rightly ws (leb 3 (length (map read_piece ws))) (read_split (map read_piece ws)) (λ e. split_rightly ws (leb-true 3 _ e))
 as_rightly (Some Carry) ws =
-    cond_rightly ws (eqb (length (map read_piece ws)) 2) (read_carry (map read_piece ws)) (λ e. carry_rightly ws (eqb-true _ 2 e))
+    cond_rightly ws (eqb (length (map read_piece ws)) 2) (read_carry (map read_piece ws)) (λ e. both_rightly carry ws (eqb-true _ 2 e))
 as_rightly (Some Sweep) ws =
-    cond_rightly ws (eqb (length (map read_piece ws)) 2) (read_sweep (map read_piece ws)) (λ e. sweep_rightly ws (eqb-true _ 2 e))
+    cond_rightly ws (eqb (length (map read_piece ws)) 2) (read_sweep (map read_piece ws)) (λ e. both_rightly sweep ws (eqb-true _ 2 e))
 
 words_rightly : (ws : List Piece) → Rightly ws (read_words (map read_piece ws))
 words_rightly [] = tt

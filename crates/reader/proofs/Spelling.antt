@@ -2,6 +2,7 @@
 use Rattle.std.proofs.Common.{◌≡◌, ℕ, ◌+◌, ◌-◌, ◌*◌, ◌^◌, ◌<◌, ◌≤◌, Bool, true, false, cond, ◌&&◌, leb, List, [], ◌∷◌, length, get_or, Some, None, decimal, Option, sym, refl, ap, ◌∙◌, ⊎_elim, arith, rules}
 use Rattle.std.proofs.lemmas.Fmt.{decimal_digit, digits_decimal, digits_value-decimal, length-decimal-le, decimal_nonempty, first_decimal, decimal-digits_value}
 use Rattle.std.proofs.lemmas.Str.Parse.{IsNumeralModel, numerals_by_fold, digits_value_short}
+use Rattle.std.proofs.lemmas.Option.{same_Some}
 use Rattle.std.proofs.lemmas.Bool.{and_parts, and_from, le-leb, leb-true, cond-true, cases_lt}
 use Rattle.reader.specs.Numbers.{digit, digits_after, plain, number_in}
 use Rattle.reader.specs.Limits.{most_digits}
@@ -55,19 +56,16 @@ forward n h =
     ∙ ap (λ k. Some k) (digits_value-decimal own n fits)
 
 -- a `cond` that gives something took its first way
-some_way : (t : Bool) (o : Option ℕ) (n : ℕ) → cond t o None ≡ Some n → (t ≡ true) × (o ≡ Some n)
-some_way true o n e = (refl, e)
-some_way false o n e = grind arith
-
-same_some : (m n : ℕ) → Some m ≡ Some n → m ≡ n
-same_some m n e = cc
+pub some_way : {A : Type 0} (t : Bool) (o : Option A) (x : A) → cond t o None ≡ Some x → (t ≡ true) × (o ≡ Some x)
+some_way true o x e = (refl, e)
+some_way false o x e = cc
 
 backward : (bs : List ℕ) (n : ℕ) → number_in bs ≡ Some n → (bs ≡ decimal n) × (n < 10 ^ most_digits)
 backward bs n e =
     let a = some_way (plain bs && leb (length bs) most_digits) (digits_after 0 bs) n e in
     let p = and_parts (plain bs) (leb (length bs) most_digits) a.0 in
     let b = some_way (all_digits bs) (Some (fold 0 bs)) n (sym (digits_is 0 bs) ∙ a.1) in
-    let v = same_some (fold 0 bs) n b.1 in
+    let v = same_Some (fold 0 bs) n b.1 in
     let small = digits_value_short own bs most_digits b.0 (leb-true (length bs) most_digits p.1) in
     let fits : fold 0 bs < 2 ^ 64 = omega arith in
     (sym (decimal-digits_value own bs b.0 (plain_some bs p.0) (plain_first bs p.0) fits) ∙ ap decimal v, omega arith)

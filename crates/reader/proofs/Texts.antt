@@ -1,7 +1,8 @@
 -- A word says something exactly if it is written so. Assumes nothing.
-use Rattle.std.proofs.Common.{◌≡◌, ℕ, suc, ◌+◌, ◌-◌, ◌*◌, ◌^◌, ◌<◌, Bool, true, false, cond, ◌&&◌, eqb, ltb, leb, List, [], ◌∷◌, ◌++◌, length, take, drop, ℤ, pos, neg_ℤ, Some, None, Ok, Err, decimal, Option, Result, sym, refl, ap, ◌∙◌, inl, inr, ⊎_elim, arith}
+use Rattle.std.proofs.Common.{◌≡◌, ℕ, suc, ◌+◌, ◌-◌, ◌*◌, ◌^◌, ◌<◌, Bool, true, false, cond, ◌&&◌, eqb, ltb, leb, List, [], ◌∷◌, ◌++◌, length, take, drop, ℤ, pos, neg_ℤ, Some, None, Ok, Err, decimal, Option, Result, sym, refl, ap, ◌∙◌, subst, inl, inr, ⊎_elim, arith}
 use Rattle.std.specs.Option.{option_map}
 use Rattle.std.proofs.lemmas.Fmt.{decimal_nonempty}
+use Rattle.std.proofs.lemmas.Option.{cond_some, none-some}
 use Rattle.std.proofs.lemmas.List.{take_all, take-append-le, length-append}
 use Rattle.std.proofs.lemmas.Bool.{leb-true, lt-leb, ne_eqb, eqb-true, and_parts, and_left, cond-true, cond-false, cases_Bool, lt-ltb, ltb-true}
 use Rattle.register.specs.Register.{Refusal}
@@ -20,78 +21,53 @@ use Rattle.reader.specs.Numbers.{digit, digits_after, plain, number_in, signed_i
 use Rattle.reader.specs.Requests.{number_at, amount_at, signed_at, currency_at, share_at, and_then, as_number, as_signed, as_share, as_currency, number_if_known}
 use Rattle.reader.specs.Words.{Piece}
 use Rattle.reader.specs.Writing.{SpellsNumber, SpellsAmount, SpellsSigned, SpellsCurrency, SpellsShare}
-use Rattle.reader.proofs.Cuts.{before_joins}
-use Rattle.reader.proofs.Spelling.{one_spelling, decimal_digits, all_digits}
+use Rattle.reader.proofs.Parts.{before_joins}
+use Rattle.reader.proofs.Spelling.{one_spelling, decimal_digits, all_digits, some_way}
 
 -- a step that gave something came of one that did
 pub chained : {A B : Type 0} (r : Result A Refusal) (f : A → Result B Refusal) (y : B) → and_then r f ≡ Ok y → (x : A) × (r ≡ Ok x) × (f x ≡ Ok y)
 chained (Ok x) f y h = (x, refl, h)
-chained (Err e) f y h = let z : ◌≡◌ {A = ℕ} 0 1 = cc in absurd (omega arith)
+chained (Err e) f y h = cc
 
--- the kinds are told apart by what could be read
-kind_number : (o : Option ℕ) (z : Option ℤ) (c : Option (List ℕ)) (p : Option (ℕ × ℕ)) (n : ℕ) → kind_by o z c p ≡ number n → o ≡ Some n
-kind_number (Some m) z c p n h = cc
-kind_number None (Some z) c p n h = let z : ◌≡◌ {A = ℕ} 0 1 = cc in absurd (omega arith)
-kind_number None None (Some c) p n h = let z : ◌≡◌ {A = ℕ} 0 1 = cc in absurd (omega arith)
-kind_number None None None (Some p) n h = let z : ◌≡◌ {A = ℕ} 0 1 = cc in absurd (omega arith)
-kind_number None None None None n h = let z : ◌≡◌ {A = ℕ} 0 1 = cc in absurd (omega arith)
+-- what could be read, where that is the kind
+abbrev Says : Option ℕ → Option ℤ → Option (List ℕ) → Option (ℕ × ℕ) → Kind → Type 0
+Says o z c p name = Unit {0}
+Says o z c p (number n) = o ≡ Some n
+Says o z c p (signed y) = z ≡ Some y
+Says o z c p (code bs) = c ≡ Some bs
+Says o z c p (pair m n) = p ≡ Some (m, n)
 
-kind_signed : (o : Option ℕ) (z : Option ℤ) (c : Option (List ℕ)) (p : Option (ℕ × ℕ)) (y : ℤ) → kind_by o z c p ≡ signed y → z ≡ Some y
-kind_signed (Some m) z c p y h = let z : ◌≡◌ {A = ℕ} 0 1 = cc in absurd (omega arith)
-kind_signed None (Some x) c p y h = cc
-kind_signed None None (Some c) p y h = let z : ◌≡◌ {A = ℕ} 0 1 = cc in absurd (omega arith)
-kind_signed None None None (Some p) y h = let z : ◌≡◌ {A = ℕ} 0 1 = cc in absurd (omega arith)
-kind_signed None None None None y h = let z : ◌≡◌ {A = ℕ} 0 1 = cc in absurd (omega arith)
+kind_says : (o : Option ℕ) (z : Option ℤ) (c : Option (List ℕ)) (p : Option (ℕ × ℕ)) → Says o z c p (kind_by o z c p)
+kind_says (Some n) z c p = refl
+kind_says None (Some y) c p = refl
+kind_says None None (Some bs) p = refl
+kind_says None None None (Some p) = refl
+kind_says None None None None = tt
 
-kind_code : (o : Option ℕ) (z : Option ℤ) (c : Option (List ℕ)) (p : Option (ℕ × ℕ)) (bs : List ℕ) → kind_by o z c p ≡ code bs → c ≡ Some bs
-kind_code (Some m) z c p bs h = let z : ◌≡◌ {A = ℕ} 0 1 = cc in absurd (omega arith)
-kind_code None (Some x) c p bs h = let z : ◌≡◌ {A = ℕ} 0 1 = cc in absurd (omega arith)
-kind_code None None (Some c) p bs h = cc
-kind_code None None None (Some p) bs h = let z : ◌≡◌ {A = ℕ} 0 1 = cc in absurd (omega arith)
-kind_code None None None None bs h = let z : ◌≡◌ {A = ℕ} 0 1 = cc in absurd (omega arith)
-
-kind_pair : (o : Option ℕ) (z : Option ℤ) (c : Option (List ℕ)) (p : Option (ℕ × ℕ)) (m n : ℕ) → kind_by o z c p ≡ pair m n → p ≡ Some (m, n)
-kind_pair (Some k) z c p m n h = let z : ◌≡◌ {A = ℕ} 0 1 = cc in absurd (omega arith)
-kind_pair None (Some x) c p m n h = let z : ◌≡◌ {A = ℕ} 0 1 = cc in absurd (omega arith)
-kind_pair None None (Some c) p m n h = let z : ◌≡◌ {A = ℕ} 0 1 = cc in absurd (omega arith)
-kind_pair None None None (Some p) m n h =
-    let l : p.0 ≡ m = cc in
-    let r : p.1 ≡ n = cc in
-    (λ i. Some (l i, r i))
-kind_pair None None None None m n h = let z : ◌≡◌ {A = ℕ} 0 1 = cc in absurd (omega arith)
+-- a text of a kind says what that kind says
+text_says : (bs : List ℕ) (k : Kind) → kind_of bs ≡ k → Says (number_in bs) (signed_in bs) (code_in bs) (pair_in bs) k
+text_says bs k h = subst (Says (number_in bs) (signed_in bs) (code_in bs) (pair_in bs)) h (kind_says (number_in bs) (signed_in bs) (code_in bs) (pair_in bs))
 
 -- what gave a number, a signed number, a share or a currency was of that kind
 as_number_lem : (c : ℕ) (k : Kind) (n : ℕ) → as_number c k ≡ Ok n → k ≡ number n
 as_number_lem c (number m) n h = cc
-as_number_lem c name n h = let z : ◌≡◌ {A = ℕ} 0 1 = cc in absurd (omega arith)
-as_number_lem c (signed z) n h = let z : ◌≡◌ {A = ℕ} 0 1 = cc in absurd (omega arith)
-as_number_lem c (code bs) n h = let z : ◌≡◌ {A = ℕ} 0 1 = cc in absurd (omega arith)
-as_number_lem c (pair a b) n h = let z : ◌≡◌ {A = ℕ} 0 1 = cc in absurd (omega arith)
+as_number_lem c _ n h = cc
 
 as_signed_lem : (c : ℕ) (k : Kind) (m : Minor) → as_signed c k ≡ Ok m → k ≡ signed m.0
 as_signed_lem c (signed z) m h = let e : record { 0 = z } ≡ m = cc in ap (λ x. signed x.0) e
-as_signed_lem c name m h = let z : ◌≡◌ {A = ℕ} 0 1 = cc in absurd (omega arith)
-as_signed_lem c (number n) m h = let z : ◌≡◌ {A = ℕ} 0 1 = cc in absurd (omega arith)
-as_signed_lem c (code bs) m h = let z : ◌≡◌ {A = ℕ} 0 1 = cc in absurd (omega arith)
-as_signed_lem c (pair a b) m h = let z : ◌≡◌ {A = ℕ} 0 1 = cc in absurd (omega arith)
+as_signed_lem c _ m h = cc
 
 as_share_lem : (c : ℕ) (k : Kind) (s : Share) → as_share c k ≡ Ok s → k ≡ pair s.account s.weight
 as_share_lem c (pair a b) s h = let e : record { account = a; weight = b } ≡ s = cc in ap (λ x. pair x.account x.weight) e
-as_share_lem c name s h = let z : ◌≡◌ {A = ℕ} 0 1 = cc in absurd (omega arith)
-as_share_lem c (number n) s h = let z : ◌≡◌ {A = ℕ} 0 1 = cc in absurd (omega arith)
-as_share_lem c (signed z) s h = let z : ◌≡◌ {A = ℕ} 0 1 = cc in absurd (omega arith)
-as_share_lem c (code bs) s h = let z : ◌≡◌ {A = ℕ} 0 1 = cc in absurd (omega arith)
+as_share_lem c _ s h = cc
 
 if_known : (c : ℕ) (o : Option Currency) (n : ℕ) → number_if_known c o ≡ Ok n → (k : Currency) × (o ≡ Some k) × (number_of k ≡ n)
 if_known c (Some k) n h = (k, refl, cc)
-if_known c None n h = let z : ◌≡◌ {A = ℕ} 0 1 = cc in absurd (omega arith)
+if_known c None n h = cc
 
 as_currency_lem : (c : ℕ) (k : Kind) (n : ℕ) → as_currency c k ≡ Ok n → (bs : List ℕ) × (k ≡ code bs) × (number_if_known c (coded bs) ≡ Ok n)
 as_currency_lem c (code bs) n h = (bs, refl, h)
-as_currency_lem c name n h = let z : ◌≡◌ {A = ℕ} 0 1 = cc in absurd (omega arith)
-as_currency_lem c (number m) n h = let z : ◌≡◌ {A = ℕ} 0 1 = cc in absurd (omega arith)
-as_currency_lem c (signed z) n h = let z : ◌≡◌ {A = ℕ} 0 1 = cc in absurd (omega arith)
-as_currency_lem c (pair a b) n h = let z : ◌≡◌ {A = ℕ} 0 1 = cc in absurd (omega arith)
+as_currency_lem c _ n h = cc
 
 -- numbers
 
@@ -104,7 +80,7 @@ kind_of_number bs n h =
 
 pub number_spelt : (p : Piece) (n : ℕ) → number_at (read_piece p) ≡ Ok n → SpellsNumber n p.text
 unfolding number_at
-number_spelt p n h = spells_number p.text n (kind_number _ _ _ _ n (as_number_lem p.column (kind_of p.text) n h))
+number_spelt p n h = spells_number p.text n (text_says p.text (number n) (as_number_lem p.column (kind_of p.text) n h))
 
 pub number_read : (p : Piece) (n : ℕ) → SpellsNumber n p.text → number_at (read_piece p) ≡ Ok n
 unfolding number_at
@@ -115,7 +91,7 @@ unfolding amount_at
 amount_spelt p m h =
     let s = chained (as_number p.column (kind_of p.text)) (λ n. Ok (minors n)) m h in
     let is : minors s.0 ≡ m = let e = s.2 in cc in
-    record { count = s.0; is = sym is; number = spells_number p.text s.0 (kind_number _ _ _ _ s.0 (as_number_lem p.column (kind_of p.text) s.0 s.1)) }
+    record { count = s.0; is = sym is; number = spells_number p.text s.0 (text_says p.text (number s.0) (as_number_lem p.column (kind_of p.text) s.0 s.1)) }
 
 pub amount_read : (p : Piece) (m : Minor) → SpellsAmount m p.text → amount_at (read_piece p) ≡ Ok m
 unfolding amount_at
@@ -143,13 +119,10 @@ no_number b xs ys h =
 
 mapped_some : {A B : Type 0} (f : A → B) (o : Option A) (y : B) → option_map f o ≡ Some y → (x : A) × (o ≡ Some x) × (f x ≡ y)
 mapped_some f (Some x) y h = (x, refl, cc)
-mapped_some f None y h = let z : ◌≡◌ {A = ℕ} 0 1 = cc in absurd (omega arith)
-
-none_some : {A : Type 0} (y : A) → None ≡ Some y → ⊥
-none_some y h = let z : ◌≡◌ {A = ℕ} 0 1 = cc in omega arith
+mapped_some f None y h = cc
 
 spells_signed : (bs : List ℕ) (m : Minor) → signed_in bs ≡ Some m.0 → SpellsSigned m bs
-spells_signed [] m h = absurd (none_some m.0 h)
+spells_signed [] m h = absurd (none-some m.0 h)
 spells_signed (b ∷ bs) m h =
     ⊎_elim
     (λ e.
@@ -171,29 +144,26 @@ spells_signed (b ∷ bs) m h =
       short = n.short;
       sign = inr (λ i. record { 0 = sym s.2 i }, λ i. eqb-true b 45 f i ∷ n.digits i);
     })
-    (λ f. absurd (none_some m.0 (sym (cond-false (eqb b 45) _ _ f) ∙ rest)))
+    (λ f. absurd (none-some m.0 (sym (cond-false (eqb b 45) _ _ f) ∙ rest)))
     (cases_Bool (eqb b 45)))
     (cases_Bool (eqb b 43))
 
+-- a sign and then a number are a signed number
+sign_kind : (sign n : ℕ) (f : ℕ → ℤ) (c : Option (List ℕ)) (p : Option (ℕ × ℕ)) → digit sign ≡ false → n < 10 ^ most_digits → kind_by (number_in (sign ∷ decimal n)) (option_map f (number_in (decimal n))) c p ≡ signed (f n)
+sign_kind sign n f c p d h =
+    ap (λ o. kind_by o (option_map f (number_in (decimal n))) c p) (no_number sign [] (decimal n) d)
+    ∙ ap (λ o. kind_by None (option_map f o) c p) (one_spelling.reads_back n h)
+
 kind_of_signed : (bs : List ℕ) (m : Minor) → SpellsSigned m bs → kind_of bs ≡ signed m.0
 kind_of_signed bs m h =
-    let back = one_spelling.reads_back h.count h.short in
     ⊎_elim
-    (λ s.
-    ap kind_of s.1
-    ∙ ap (λ o. kind_by o (option_map pos (number_in (decimal h.count))) (code_in (43 ∷ decimal h.count)) (pair_in (43 ∷ decimal h.count))) (no_number 43 [] (decimal h.count) refl)
-    ∙ ap (λ o. kind_by None (option_map pos o) (code_in (43 ∷ decimal h.count)) (pair_in (43 ∷ decimal h.count))) back
-    ∙ ap (λ x. signed x.0) (sym s.0))
-    (λ s.
-    ap kind_of s.1
-    ∙ ap (λ o. kind_by o (option_map (λ n. neg_ℤ (pos n)) (number_in (decimal h.count))) (code_in (45 ∷ decimal h.count)) (pair_in (45 ∷ decimal h.count))) (no_number 45 [] (decimal h.count) refl)
-    ∙ ap (λ o. kind_by None (option_map (λ n. neg_ℤ (pos n)) o) (code_in (45 ∷ decimal h.count)) (pair_in (45 ∷ decimal h.count))) back
-    ∙ ap (λ x. signed x.0) (sym s.0))
+    (λ s. ap kind_of s.1 ∙ sign_kind 43 h.count pos _ _ refl h.short ∙ ap (λ x. signed x.0) (sym s.0))
+    (λ s. ap kind_of s.1 ∙ sign_kind 45 h.count (λ n. neg_ℤ (pos n)) _ _ refl h.short ∙ ap (λ x. signed x.0) (sym s.0))
     h.sign
 
 pub signed_spelt : (p : Piece) (m : Minor) → signed_at (read_piece p) ≡ Ok m → SpellsSigned m p.text
 unfolding signed_at
-signed_spelt p m h = spells_signed p.text m (kind_signed _ _ _ _ m.0 (as_signed_lem p.column (kind_of p.text) m h))
+signed_spelt p m h = spells_signed p.text m (text_says p.text (signed m.0) (as_signed_lem p.column (kind_of p.text) m h))
 
 pub signed_read : (p : Piece) (m : Minor) → SpellsSigned m p.text → signed_at (read_piece p) ≡ Ok m
 unfolding signed_at
@@ -202,15 +172,8 @@ signed_read p m h = ap (as_signed p.column) (kind_of_signed p.text m h)
 -- currencies
 
 code_in_lem : (bs cs : List ℕ) → code_in bs ≡ Some cs → cs ≡ bs
-code_in_lem [] cs h = absurd (none_some cs h)
-code_in_lem (a ∷ []) cs h = absurd (none_some cs h)
-code_in_lem (a ∷ b ∷ []) cs h = absurd (none_some cs h)
-code_in_lem (a ∷ b ∷ c ∷ []) cs h =
-    ⊎_elim
-    (λ e. let s = sym (cond-true (capital a && (capital b && capital c)) (Some (a ∷ b ∷ c ∷ [])) None e) ∙ h in cc)
-    (λ e. absurd (none_some cs (sym (cond-false (capital a && (capital b && capital c)) (Some (a ∷ b ∷ c ∷ [])) None e) ∙ h)))
-    (cases_Bool (capital a && (capital b && capital c)))
-code_in_lem (a ∷ b ∷ c ∷ x ∷ bs) cs h = absurd (none_some cs h)
+code_in_lem (a ∷ b ∷ c ∷ []) cs h = sym (cond_some (capital a && (capital b && capital c)) (a ∷ b ∷ c ∷ []) cs h).1
+code_in_lem _ cs h = absurd (none-some cs h)
 
 kind_of_code : (k : Currency) → kind_of (code_of k) ≡ code (code_of k)
 kind_of_code Euro = refl
@@ -231,7 +194,7 @@ unfolding currency_at
 currency_spelt p n h =
     let s = as_currency_lem p.column (kind_of p.text) n h in
     let k = if_known p.column (coded s.0) n s.2 in
-    let is = code_in_lem p.text s.0 (kind_code (number_in p.text) (signed_in p.text) (code_in p.text) (pair_in p.text) s.0 s.1) in
+    let is = code_in_lem p.text s.0 (text_says p.text (code s.0) s.1) in
     record { currency = k.0; number = k.2; code = sym (names.code_is s.0 k.0 k.1 ∙ is) }
 
 pub currency_read : (p : Piece) (n : ℕ) → SpellsCurrency n p.text → currency_at (read_piece p) ≡ Ok n
@@ -243,26 +206,23 @@ currency_read p n h =
 -- shares
 
 both_some : (o p : Option ℕ) (m n : ℕ) → both o p ≡ Some (m, n) → (o ≡ Some m) × (p ≡ Some n)
-both_some None p m n h = absurd (none_some (m, n) h)
-both_some (Some a) None m n h = absurd (none_some (m, n) h)
+both_some None p m n h = absurd (none-some (m, n) h)
+both_some (Some a) None m n h = absurd (none-some (m, n) h)
 both_some (Some a) (Some b) m n h =
     let e : ◌≡◌ {A = ℕ × ℕ} (a, b) (m, n) = cc in
     (ap (λ q. Some q.0) e, ap (λ q. Some q.1) e)
 
 spells_share : (bs : List ℕ) (s : Share) → pair_in bs ≡ Some (s.account, s.weight) → SpellsShare s bs
 spells_share bs s h =
-    ⊎_elim
-    (λ e.
-    let q = both_some _ _ s.account s.weight (sym (cond-true (ltb (before colon bs) (length bs)) _ None e) ∙ h) in
+    let e = some_way (ltb (before colon bs) (length bs)) _ (s.account, s.weight) h in
+    let q = both_some _ _ s.account s.weight e.1 in
     let a = spells_number _ s.account q.0 in
     let b = spells_number _ s.weight q.1 in
     record {
       account = a.short;
       weight = b.short;
-      pair = before_joins colon bs (ltb-true _ _ e) ∙ (λ i. a.digits i ++ (colon ∷ b.digits i));
-    })
-    (λ e. absurd (none_some _ (sym (cond-false (ltb (before colon bs) (length bs)) _ None e) ∙ h)))
-    (cases_Bool (ltb (before colon bs) (length bs)))
+      pair = before_joins colon bs (ltb-true _ _ e.0) ∙ (λ i. a.digits i ++ (colon ∷ b.digits i));
+    }
 
 -- digits to the first colon
 before_digits : (xs ys : List ℕ) → all_digits xs ≡ true → before colon (xs ++ (colon ∷ ys)) ≡ length xs
@@ -326,8 +286,7 @@ kind_of_share bs s h =
 pub share_spelt : (p : Piece) (s : Share) → share_at (read_piece p) ≡ Ok s → SpellsShare s p.text
 unfolding share_at
 share_spelt p s h =
-    spells_share p.text s
-    (kind_pair (number_in p.text) (signed_in p.text) (code_in p.text) (pair_in p.text) s.account s.weight (as_share_lem p.column (kind_of p.text) s h))
+    spells_share p.text s (text_says p.text (pair s.account s.weight) (as_share_lem p.column (kind_of p.text) s h))
 
 pub share_read : (p : Piece) (s : Share) → SpellsShare s p.text → share_at (read_piece p) ≡ Ok s
 unfolding share_at

@@ -1,9 +1,7 @@
 -- The kinds of words. Assumes nothing.
-use Rattle.std.specs.Prelude.{ℕ, ◌^◌, ◌<◌, List, [], ◌∷◌, map, ℤ, Some, None, Option}
-use Rattle.std.specs.List.{AllByRecursion}
+use Rattle.std.specs.Prelude.{ℕ, List, map, ℤ, Some, None, Option}
 use Rattle.reader.specs.declared.word.Word.{Word}
 use Rattle.reader.specs.declared.word.Word.TheVariants.{Name, Number, Signed, Code, Pair}
-use Rattle.reader.specs.Limits.{most_digits}
 use Rattle.reader.specs.Numbers.{number_in, signed_in, code_in, pair_in}
 use Rattle.reader.specs.Words.{Piece, words_of}
 
@@ -43,26 +41,8 @@ words_in bs = map read_piece (words_of bs)
 
 -- a word of the program, with the bytes that it borrows as a list
 abbrev pub view : Word → WordRead
-view (Name c t) = record { column = c; text = t.now; kind = name }
-view (Number c t n) = record { column = c; text = t.now; kind = number n }
-view (Signed c t z) = record { column = c; text = t.now; kind = signed z }
-view (Code c t bs) = record { column = c; text = t.now; kind = code bs }
-view (Pair c t m n) = record { column = c; text = t.now; kind = pair m n }
-
--- a number is no longer than a number may be
-abbrev pub WithinDigits : Kind → Type 0
-WithinDigits name = Unit {0}
-WithinDigits (number n) = n < 10 ^ most_digits
-WithinDigits (signed z) = Unit {0}
-WithinDigits (code bs) = Unit {0}
-WithinDigits (pair m n) = Unit {0}
-
--- words of the program of which no number is longer than a number may be
-abbrev pub Readable : List Word → Type 0
-Readable ws = AllByRecursion (λ w. WithinDigits (view w).kind) ws
-
--- ys with xs written over its front, as much as fits
-abbrev pub over : {X : Type 0} → List X → List X → List X
-over [] ys = ys
-over (x ∷ xs) [] = []
-over (x ∷ xs) (y ∷ ys) = x ∷ over xs ys
+view (Name s) = record { column = s.column; text = s.text.now; kind = name }
+view (Number s n) = record { column = s.column; text = s.text.now; kind = number n }
+view (Signed s z) = record { column = s.column; text = s.text.now; kind = signed z }
+view (Code s bs) = record { column = s.column; text = s.text.now; kind = code bs }
+view (Pair s m n) = record { column = s.column; text = s.text.now; kind = pair m n }

@@ -1,13 +1,9 @@
 -- How much a line can hold. Assumes nothing.
-use Rattle.std.specs.Prelude.{ℕ, ◌-◌, ◌/◌}
+use Rattle.std.specs.Prelude.{ℕ, ◌-◌}
 
 -- the most words of a line
 abbrev pub most_words : ℕ
 most_words = 49
-
--- the most postings of a line: after its first word, three words each
-abbrev pub most_postings : ℕ
-most_postings = (most_words - 1) / 3
 
 -- the most pairs of a line: after its first word, an account, a code and an amount
 abbrev pub most_pairs : ℕ

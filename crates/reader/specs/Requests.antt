@@ -1,5 +1,5 @@
 -- What a line asks for, or with what it is refused. Assumes nothing.
-use Rattle.std.specs.Prelude.{ℕ, ◌%◌, cond, List, [], ◌∷◌, length, take, drop, Some, None, Ok, Err, codes, Option, Result, ◌==◌, nat_le, slice_index_or}
+use Rattle.std.specs.Prelude.{ℕ, ◌%◌, cond, List, [], ◌∷◌, length, drop, Some, None, Ok, Err, codes, Option, Result, ◌==◌, nat_le, slice_index_or}
 use Rattle.std.specs.Str.{bytes_eq}
 use Rattle.register.specs.Register.{Refusal, by_reader}
 use Rattle.money.specs.Conversions.{minors}
@@ -10,7 +10,7 @@ use Rattle.apportion.specs.declared.share.Share.{Share}
 use Rattle.model.specs.declared.request.Posting.{Posting}
 use Rattle.model.specs.declared.request.Exchange.{Exchange}
 use Rattle.model.specs.declared.request.Division.{Division}
-use Rattle.reader.specs.declared.list.FixedList.{FixedList}
+use Rattle.arrayvec.specs.ArrayVec.{ArrayVec}
 use Rattle.reader.specs.declared.request.Request.{Request}
 use Rattle.reader.specs.declared.request.Request.TheVariants as requests
 use Rattle.reader.specs.declared.pattern.Verb.{Verb}
@@ -43,26 +43,17 @@ and_then (Err e) f = Err e
 -- the number that a word of that kind is
 abbrev pub as_number : ℕ → Kind → Result ℕ Refusal
 as_number c (number n) = Ok n
-as_number c name = Err (unreadable c)
-as_number c (signed z) = Err (unreadable c)
-as_number c (code bs) = Err (unreadable c)
-as_number c (pair m n) = Err (unreadable c)
+as_number c _ = Err (unreadable c)
 
 -- the amount that a signed number is
 abbrev pub as_signed : ℕ → Kind → Result Minor Refusal
 as_signed c (signed z) = Ok (record { 0 = z })
-as_signed c name = Err (unreadable c)
-as_signed c (number n) = Err (unreadable c)
-as_signed c (code bs) = Err (unreadable c)
-as_signed c (pair m n) = Err (unreadable c)
+as_signed c _ = Err (unreadable c)
 
 -- the account and the weight that a pair is
 abbrev pub as_share : ℕ → Kind → Result Share Refusal
 as_share c (pair m n) = Ok (record { account = m; weight = n })
-as_share c name = Err (unreadable c)
-as_share c (number n) = Err (unreadable c)
-as_share c (signed z) = Err (unreadable c)
-as_share c (code bs) = Err (unreadable c)
+as_share c _ = Err (unreadable c)
 
 -- the number of a currency that the table has
 abbrev pub number_if_known : ℕ → Option Currency → Result ℕ Refusal
@@ -72,10 +63,7 @@ number_if_known c None = Err (unreadable c)
 -- the number of the currency whose code a word is
 abbrev pub as_currency : ℕ → Kind → Result ℕ Refusal
 as_currency c (code bs) = number_if_known c (coded bs)
-as_currency c name = Err (unreadable c)
-as_currency c (number n) = Err (unreadable c)
-as_currency c (signed z) = Err (unreadable c)
-as_currency c (pair m n) = Err (unreadable c)
+as_currency c _ = Err (unreadable c)
 
 -- what a word says where a number, an amount, a signed amount, a currency or a share is asked for; a word of another
 -- kind is refused at its column
@@ -123,6 +111,10 @@ shares_of (w ∷ ws) = and_then (share_at w) (λ s. put_first s (shares_of ws))
 abbrev pub word_at : List WordRead → ℕ → WordRead
 word_at ws i = slice_index_or ws i (record { column = 0; text = []; kind = name })
 
+-- a posting, and no other word
+abbrev pub one_posting : List WordRead → Result Posting Refusal
+one_posting ws = cond (length ws == 3) (posting_of (word_at ws 0) (word_at ws 1) (word_at ws 2)) (Err unknown_pattern)
+
 -- what the first word of a line asks for
 abbrev pub verb_of : List ℕ → Option Verb
 verb_of bs =
@@ -155,6 +147,13 @@ read_split ws =
     and_then (shares_of (drop 3 ws)) (λ shares.
     Ok (split (record { account = account; currency = currency; amount = amount }) shares)))))
 
+-- two numbers, and no other word
+abbrev pub two_numbers : List WordRead → Result (ℕ × ℕ) Refusal
+two_numbers ws =
+    cond (length ws == 2)
+    (and_then (number_at (word_at ws 0)) (λ m. and_then (number_at (word_at ws 1)) (λ n. Ok (m, n))))
+    (Err unknown_pattern)
+
 -- carry: number, account
 abbrev pub read_carry : List WordRead → Result Asked Refusal
 read_carry ws = and_then (number_at (word_at ws 0)) (λ n. and_then (number_at (word_at ws 1)) (λ account. Ok (carry n account)))
@@ -182,9 +181,9 @@ read_words (w ∷ ws) = and_then (read_as (verb_of w.text) ws) (λ a. Ok (Some a
 unfoldable pub read_line : List ℕ → Result (Option Asked) Refusal
 read_line bs = cond (nat_le (length (words_of bs)) most_words) (read_words (words_in bs)) (Err unknown_pattern)
 
--- the items of a list of the program, as many as it counts
-abbrev pub listed : {X : Type 0} {n : ℕ} → FixedList X n → List X
-listed l = take l.count l.items
+-- the items of a list of the program
+abbrev pub listed : {X : Type 0} → ArrayVec X → List X
+listed v = v.items
 
 -- what a request of the program asks for
 abbrev pub asked : Request → Asked

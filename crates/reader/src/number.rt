@@ -1,32 +1,65 @@
 //! What a word's bytes say: a number, a signed number, a code or a pair.
-ghost use Rattle.std.specs.Prelude.{◌≡◌, ◌^◌, ◌<◌, ◌≤◌, length, IfSome};
+ghost use Rattle.std.specs.Prelude.{◌≡◌, ◌≤◌, length, pos};
 ghost use Rattle.reader.specs.Limits.{most_digits};
 ghost use Rattle.reader.specs.Numbers.{digits_after, number_in, signed_in, code_in, pair_in};
 
-use crate::scan::count_before;
+use crate::split::split_once;
+use std::marker::Model;
 
 /// The most digits of a number.
 const MOST_DIGITS: usize = 11;
 
+/// A number of at most 11 digits.
+#[derive(Clone, Copy)]
+pub(crate) struct ShortNumber {
+    value: u64,
+}
+
+impl Model for ShortNumber {
+    ghost use Rattle.std.specs.Prelude.{ℕ, ◌^◌, ◌<◌};
+    ghost use Rattle.reader.specs.Limits.{most_digits};
+
+    ghost Value = { ℕ };
+
+    ghost view = { λ n. n.value };
+
+    ghost invariant = { λ n. n.value < 10 ^ most_digits };
+
+    ghost inverse = { λ n. record { value = n } };
+}
+
+impl From<ShortNumber> for u64 {
+    ghost from_gives = { λ n r. r ≡ n };
+
+    fn from(number: ShortNumber) -> u64 {
+        number.value
+    }
+}
+
+impl From<ShortNumber> for i64 {
+    ghost from_gives = { λ n r. r ≡ pos n };
+
+    fn from(number: ShortNumber) -> i64 {
+        number.value as i64
+    }
+}
+
 /// A number: 1 to 11 digits with no needless 0 in front.
-pub(crate) fn number(text: &[u8]) -> Option<u64>
-    ensures value { result ≡ number_in text.now }
-    ensures small { IfSome result (λ n. n < 10 ^ most_digits) }
+pub(crate) fn number(text: &[u8]) -> Option<ShortNumber>
+    ensures { result ≡ number_in text.now }
 {
     if text.len() > MOST_DIGITS {
         return None;
     }
     match text {
-        [] => None,
-        [b'0', _, ..] => None,
+        [] | [b'0', _, ..] => None,
         _ => digits(text),
     }
 }
 
-fn digits(text: &[u8]) -> Option<u64>
+fn digits(text: &[u8]) -> Option<ShortNumber>
     requires { length text.now ≤ most_digits }
-    ensures value { result ≡ digits_after 0 text.now }
-    ensures small { IfSome result (λ n. n < 10 ^ most_digits) }
+    ensures { result ≡ digits_after 0 text.now }
 {
     let mut value = 0u64;
     for b in text {
@@ -35,7 +68,7 @@ fn digits(text: &[u8]) -> Option<u64>
             _ => return None,
         }
     }
-    Some(value)
+    Some(ShortNumber { value })
 }
 
 /// A number after its sign.
@@ -43,14 +76,8 @@ pub(crate) fn signed(text: &[u8]) -> Option<i64>
     ensures { result ≡ signed_in text.now }
 {
     match text {
-        [b'+', rest @ ..] => match number(rest) {
-            Some(n) => Some(n as i64),
-            None => None,
-        },
-        [b'-', rest @ ..] => match number(rest) {
-            Some(n) => Some(-(n as i64)),
-            None => None,
-        },
+        [b'+', rest @ ..] => number(rest).map(i64::from),
+        [b'-', rest @ ..] => number(rest).map(|n| -i64::from(n)),
         _ => None,
     }
 }
@@ -68,14 +95,11 @@ pub(crate) fn code(text: &[u8]) -> Option<[u8; 3]>
 }
 
 /// A pair: two numbers around a colon.
-pub(crate) fn pair(text: &[u8]) -> Option<(u64, u64)>
+pub(crate) fn pair(text: &[u8]) -> Option<(ShortNumber, ShortNumber)>
     ensures { result ≡ pair_in text.now }
 {
-    let n = count_before(text, b':');
-    if n >= text.len() {
-        return None;
-    }
-    let first = number(&text[0..n])?;
-    let second = number(&text[n + 1..])?;
+    let (first, second) = split_once(text, b':')?;
+    let first = number(first)?;
+    let second = number(second)?;
     Some((first, second))
 }

@@ -1,6 +1,6 @@
 //! What a line asks for.
-use crate::list::FixedList;
 use apportion::Share;
+use arrayvec::ArrayVec;
 use model::{Division, Exchange, Posting};
 
 /// The most words of a line.
@@ -16,13 +16,13 @@ pub const MOST_PAIRS: usize = 45;
 #[derive(Drop)]
 pub enum Request {
     /// `post`, then account, code and signed amount, repeated.
-    Post(FixedList<Posting, MOST_POSTINGS>),
+    Post(ArrayVec<Posting, MOST_POSTINGS>),
     /// `conv`, from, to, code, code, amount.
     Convert(Exchange),
     /// `split`, account, code, amount, then pairs of account and weight.
     Split {
         division: Division,
-        shares: FixedList<Share, MOST_PAIRS>,
+        shares: ArrayVec<Share, MOST_PAIRS>,
     },
     /// `carry`, number, account.
     Carry {

@@ -1,58 +1,54 @@
 //! The words of a line, and what each says.
-ghost use Rattle.std.specs.Prelude.{◌≡◌, map, length};
+ghost use Rattle.std.specs.Prelude.{◌≡◌, ◌<◌, ◌≤◌, map, length, IfSome, MatchOption};
 ghost use Rattle.register.specs.Register.{reader_answer};
-ghost use Rattle.reader.specs.Kinds.{WithinDigits, kind_of, view, words_in, over};
+ghost use Rattle.register.specs.declared.cause.ReaderCause.TheVariants.{UnreadableWord};
+ghost use Rattle.reader.specs.Kinds.{kind_of, view, words_in};
+ghost use Rattle.reader.specs.Limits.{most_words};
 ghost use Rattle.reader.specs.Requests.{number_at, amount_at, signed_at, currency_at, share_at};
 ghost use Rattle.reader.specs.Words.{words_of};
-ghost use Rattle.register.specs.declared.cause.ReaderCause.TheVariants.{UnreadableWord};
 
-use crate::number::{code, number, pair, signed};
-use crate::scan::{count_before, count_leading};
+use crate::number::{ShortNumber, code, number, pair, signed};
+use crate::request::MOST_WORDS;
 use apportion::Share;
+use arrayvec::ArrayVec;
 use money::{Currency, Minor};
-use register::{ReaderCause, ReaderFault};
+use register::{Placed, ReaderCause, ReaderFault};
 
-/// A word of a line: the part of the line that it is, the column of its first byte, from 1, and what it says. A name is
-/// what is nothing else.
+/// The part of a line that a word is: the column of its first byte, from 1, and its bytes.
+#[derive(Clone, Copy, Default)]
+pub(crate) struct Span<'a> {
+    column: usize,
+    text: &'a [u8],
+}
+
+/// A word of a line, and what it says. A name is what is nothing else.
 #[derive(Clone, Copy)]
 pub(crate) enum Word<'a> {
-    Name {
-        column: usize,
-        text: &'a [u8],
-    },
-    Number {
-        column: usize,
-        text: &'a [u8],
-        value: u64,
-    },
-    Signed {
-        column: usize,
-        text: &'a [u8],
-        value: i64,
-    },
-    Code {
-        column: usize,
-        text: &'a [u8],
-        code: [u8; 3],
-    },
-    Pair {
-        column: usize,
-        text: &'a [u8],
-        first: u64,
-        second: u64,
-    },
+    Name(Span<'a>),
+    Number(Span<'a>, ShortNumber),
+    Signed(Span<'a>, i64),
+    Code(Span<'a>, [u8; 3]),
+    Pair(Span<'a>, ShortNumber, ShortNumber),
+}
+
+/// What an unused place of a list of words holds.
+impl Default for Word<'_> {
+    fn default() -> Self {
+        Word::Name(Span::default())
+    }
 }
 
 impl<'a> Word<'a> {
-    fn column(&self) -> usize
-        ensures { result ≡ (view self.now).column }
+    fn span(&self) -> Span<'a>
+        ensures column { result.column ≡ (view self.now).column }
+        ensures text { result.text.now ≡ (view self.now).text }
     {
         match self {
-            Word::Name { column, .. } => *column,
-            Word::Number { column, .. } => *column,
-            Word::Signed { column, .. } => *column,
-            Word::Code { column, .. } => *column,
-            Word::Pair { column, .. } => *column,
+            Word::Name(span)
+            | Word::Number(span, _)
+            | Word::Signed(span, _)
+            | Word::Code(span, _)
+            | Word::Pair(span, _, _) => *span,
         }
     }
 
@@ -60,136 +56,108 @@ impl<'a> Word<'a> {
     pub(crate) fn text(&self) -> &'a [u8]
         ensures { result.now ≡ (view self.now).text }
     {
-        match self {
-            Word::Name { text, .. } => text,
-            Word::Number { text, .. } => text,
-            Word::Signed { text, .. } => text,
-            Word::Code { text, .. } => text,
-            Word::Pair { text, .. } => text,
-        }
+        self.span().text
     }
 
     /// The refusal of a word that is not of the kind that its place asks for.
     fn unreadable(&self) -> ReaderFault
         ensures { result ≡ record { cause = UnreadableWord; place = (view self.now).column } }
     {
-        ReaderFault {
-            cause: ReaderCause::UnreadableWord,
-            place: self.column(),
-        }
+        Placed::at(ReaderCause::UnreadableWord, self.span().column)
     }
 
     /// The number that the word is.
+    #[tactic(auto, unfolding(crate::specs::Requests::number_at))]
     pub(crate) fn number(&self) -> Result<u64, ReaderFault>
         ensures { reader_answer result ≡ number_at (view self.now) }
     {
         match self {
-            Word::Number { value, .. } => Ok(*value),
+            Word::Number(_, value) => Ok(u64::from(*value)),
             _ => Err(self.unreadable()),
         }
     }
 
     /// The number that the word is, as an amount.
+    #[tactic(auto, unfolding(crate::specs::Requests::amount_at))]
     pub(crate) fn amount(&self) -> Result<Minor, ReaderFault>
-        requires { WithinDigits (view self.now).kind }
         ensures { reader_answer result ≡ amount_at (view self.now) }
     {
         match self {
-            Word::Number { value, .. } => Ok(Minor(*value as i64)),
+            Word::Number(_, value) => Ok(Minor(i64::from(*value))),
             _ => Err(self.unreadable()),
         }
     }
 
     /// The signed number that the word is, as an amount.
+    #[tactic(auto, unfolding(crate::specs::Requests::signed_at))]
     pub(crate) fn signed(&self) -> Result<Minor, ReaderFault>
         ensures { reader_answer result ≡ signed_at (view self.now) }
     {
         match self {
-            Word::Signed { value, .. } => Ok(Minor(*value)),
+            Word::Signed(_, value) => Ok(Minor(*value)),
             _ => Err(self.unreadable()),
         }
     }
 
     /// The number of the currency whose code the word is.
+    #[tactic(auto, unfolding(crate::specs::Requests::currency_at))]
     pub(crate) fn currency(&self) -> Result<u64, ReaderFault>
         ensures { reader_answer result ≡ currency_at (view self.now) }
     {
-        match self {
-            Word::Code { code, .. } => match Currency::from_code(*code) {
-                Some(currency) => Ok(u64::from(currency.number())),
-                None => Err(self.unreadable()),
-            },
-            _ => Err(self.unreadable()),
-        }
+        let Word::Code(_, code) = self else {
+            return Err(self.unreadable());
+        };
+        let currency = Currency::from_code(*code).ok_or(self.unreadable())?;
+        Ok(u64::from(currency.number()))
     }
 
     /// The account and the weight that the word is.
+    #[tactic(auto, unfolding(crate::specs::Requests::share_at))]
     pub(crate) fn share(&self) -> Result<Share, ReaderFault>
         ensures { reader_answer result ≡ share_at (view self.now) }
     {
         match self {
-            Word::Pair { first, second, .. } => Ok(Share {
-                account: *first,
-                weight: *second,
+            Word::Pair(_, account, weight) => Ok(Share {
+                account: u64::from(*account),
+                weight: u64::from(*weight),
             }),
             _ => Err(self.unreadable()),
         }
     }
 }
 
-/// The word that the text is.
-fn read_word<'a>(column: usize, text: &'a [u8]) -> Word<'a>
-    ensures { view result ≡ record { column = column; text = text.now; kind = kind_of text.now } }
+/// The word that a part of a line is.
+fn read_word(span: Span<'_>) -> Word<'_>
+    ensures { view result ≡ record { column = span.entry.column; text = span.entry.text.now; kind = kind_of span.entry.text.now } }
 {
-    if let Some(value) = number(text) {
-        return Word::Number {
-            column,
-            text,
-            value,
-        };
-    }
-    if let Some(value) = signed(text) {
-        return Word::Signed {
-            column,
-            text,
-            value,
-        };
-    }
-    if let Some(code) = code(text) {
-        return Word::Code { column, text, code };
-    }
-    match pair(text) {
-        Some((first, second)) => Word::Pair {
-            column,
-            text,
-            first,
-            second,
-        },
-        None => Word::Name { column, text },
+    if let Some(value) = number(span.text) {
+        Word::Number(span, value)
+    } else if let Some(value) = signed(span.text) {
+        Word::Signed(span, value)
+    } else if let Some(code) = code(span.text) {
+        Word::Code(span, code)
+    } else if let Some((first, second)) = pair(span.text) {
+        Word::Pair(span, first, second)
+    } else {
+        Word::Name(span)
     }
 }
 
-/// Writes the words of a line over the front of `words`, as many as fit, and answers how many the line has.
-pub(crate) fn split_words<'a>(line: &'a [u8], words: &mut [Word<'a>]) -> usize
-    ensures count { result ≡ length (words_of line.now) }
-    ensures written { map view words.new ≡ over (words_in line.now) (map view words.old) }
+/// The words of a line, if they are no more than a request can have.
+pub(crate) fn split_words(line: &[u8]) -> Option<ArrayVec<Word<'_>, MOST_WORDS>>
+    ensures words { MatchOption result (most_words < length (words_of line.now)) (λ words. map view words.items ≡ words_in line.now) }
+    ensures few { IfSome result (λ words. length words.items ≤ most_words) }
 {
-    let mut rest = line;
+    let mut words = ArrayVec::new();
     let mut column = 1;
-    let mut count = 0;
-    loop {
-        let gap = count_leading(rest, b' ');
-        let from = &rest[gap..];
-        let len = count_before(from, b' ');
-        if len == 0 {
-            return count;
+    for text in line.split(|b| *b == b' ') {
+        if !text.is_empty() {
+            if words.is_full() {
+                return None;
+            }
+            words.push(read_word(Span { column, text }));
         }
-        let at = column + gap;
-        if count < words.len() {
-            words[count] = read_word(at, &from[0..len]);
-        }
-        count += 1;
-        column = at + len;
-        rest = &from[len..];
+        column += text.len() + 1;
     }
+    Some(words)
 }

@@ -12,11 +12,12 @@ ghost use Rattle.requests.specs.Requests.{ruled, numbers, request_calls, perform
 use crate::reply::Reply;
 use crate::slips::{carry_number, convert_and_park};
 use apportion::{Fraction, MOST_SHARES, Share, TieRule};
+use arrayvec::ArrayVec;
 use book::Book;
 use ledger::Ledger;
 use model::Division;
 use money::Minor;
-use reader::{FixedList, Request, read_line};
+use reader::{Request, read_line};
 use register::Fault;
 
 /// Splits, and keeps the portions. A line says nothing of the fractions.
@@ -32,10 +33,9 @@ fn split_among<L: Ledger, R: TieRule>(
     let mut items = [Minor(0); MOST_SHARES];
     let mut fractions = [Fraction(0); MOST_SHARES];
     book.split(rule, division, shares, &mut items, &mut fractions)?;
-    Ok(Reply::Split(FixedList {
-        items,
-        count: shares.len(),
-    }))
+    let mut portions = ArrayVec::from_array_in((), items);
+    portions.truncate(shares.len());
+    Ok(Reply::Split(portions))
 }
 
 /// Does what a request asks for.

@@ -1,7 +1,7 @@
 //! What an accepted request answers.
 use apportion::MOST_SHARES;
+use arrayvec::ArrayVec;
 use money::Minor;
-use reader::FixedList;
 
 /// What an accepted request answers: nothing more, what a conversion booked and its slip's number, the portions of a
 /// split in the order of its shares, or what a sweep moved.
@@ -9,6 +9,6 @@ use reader::FixedList;
 pub enum Reply {
     Done,
     Converted { booked: Minor, number: u32 },
-    Split(FixedList<Minor, MOST_SHARES>),
+    Split(ArrayVec<Minor, MOST_SHARES>),
     Swept(Minor),
 }

@@ -1,25 +1,25 @@
 -- Assumes nothing.
-use Rattle.std.proofs.Common.{replicate, refl, ◌∙◌, arith, rules}
-use Rattle.reader.specs.declared.word.Word.TheVariants.{Name}
-use Rattle.reader.specs.Limits.{most_words}
+use Rattle.std.proofs.Common.{◌≡◌, map, Some, None, ap, ◌∙◌, arith}
+use Rattle.std.specs.Option.{option_map}
+use Rattle.std.proofs.lemmas.Option.{MatchOption-at_none, MatchOption-at_some}
+use Rattle.register.specs.Register.{reader_answer}
+use Rattle.reader.specs.Kinds.{view}
+use Rattle.reader.specs.Requests.{asked, given_by, read_line, read_words}
 use Rattle.reader.proofs.Answering.{line_answered}
-use Rattle.reader.proofs.Patterns.{line_read, line_long, line_readable}
+use Rattle.reader.proofs.Patterns.{line_read, line_long}
 use Rattle.reader.proofs.pattern.read_line.Goals as goal
+
+pub returns-in_err-words : goal.returns-in_err-words
+returns-in_err-words c =
+    let none : c.split_words.result ≡ None = grind arith in
+    let many = MatchOption-at_none _ _ none c.split_words.ensures.words in
+    let value : given_by (option_map asked) (reader_answer c.from_residual.result) ≡ read_line c.args.line.now = grind (arith, line_long c.args.line.now many) in
+    record { value = value; answers = line_answered c.args.line.now _ value }
 
 pub returns : goal.returns
 returns c =
-    let is =
-    c.read_words.ensures
-    ∙ line_read c.args.line.now (replicate most_words (Name 0 c.args.line)) _ _ refl c.split_words-count.ensures.count c.if-count-gt-MOST_WORDS.false c.split_words-count.ensures.written in
-    record { value = is; answers = line_answered c.args.line.now _ is }
-
-pub returns-then-count-gt-MOST_WORDS : goal.returns-then-count-gt-MOST_WORDS
-returns-then-count-gt-MOST_WORDS c =
-    let is = line_long c.args.line.now (omega (arith, c.split_words-count.ensures.count)) in
-    record { value = rw c.unknown_pattern.ensures is; answers = rw c.unknown_pattern.ensures (line_answered c.args.line.now _ is) }
-
-pub read_words-requires : goal.read_words-requires
-read_words-requires c = record {
-  few = search rules;
-  readable = line_readable c.args.line.now (replicate most_words (Name 0 c.args.line)) _ _ refl c.split_words-count.ensures.count c.if-count-gt-MOST_WORDS.false c.split_words-count.ensures.written;
-}
+    let some : c.split_words.result ≡ Some c.in_ok-words.words = grind arith in
+    let all = MatchOption-at_some _ _ _ some c.split_words.ensures.words in
+    let few = MatchOption-at_some _ _ _ some c.split_words.ensures.few in
+    let value = c.read_words.ensures ∙ ap (λ ws. read_words (map view ws)) c.as_slice.ensures.value ∙ line_read c.args.line.now c.in_ok-words.words.items all few in
+    record { value = value; answers = line_answered c.args.line.now _ value }

@@ -21,7 +21,7 @@ returns-in_err-post-in-Post g c =
     let p = err_from_is_err_and c.from_residual.result c.from_residual.ensures.1 in
     let legs = c.as_slice.result.now in
     let e = c.in_err-post-in-Post.ensures.step in
-    let q : post legs ≡ asked c.args.request.now = ap post c.as_slice.ensures ∙ sym (ap asked c.in-Post.is) in
+    let q : post legs ≡ asked c.args.request.now = ap post c.as_slice.ensures.value ∙ sym (ap asked c.in-Post.is) in
     let state : (law : Lawful tie) → t ≡ after s (request_calls (ruled law) s (asked c.args.request.now)) = λ law. one_call s (calls.post legs) _ t e ∙ ap (λ (a : Asked). after s (request_calls (ruled law) s a)) q in
     rw (p.1, p.2) (record {
       value = λ law. ap (λ (r : Result (Unit {0}) Refusal). given_by {B = List ℤ} (λ done. []) r) (answered s (calls.post legs) _ t e) ∙ ap (performed (ruled law) s) q;
@@ -36,7 +36,7 @@ returns-in_ok-post-in-Post g c =
     let tie = g.R.TieRule.tie c.args.rule.now in
     let legs = c.as_slice.result.now in
     let e = c.in_ok-post-in-Post.ensures.step in
-    let q : post legs ≡ asked c.args.request.now = ap post c.as_slice.ensures ∙ sym (ap asked c.in-Post.is) in
+    let q : post legs ≡ asked c.args.request.now = ap post c.as_slice.ensures.value ∙ sym (ap asked c.in-Post.is) in
     let state : (law : Lawful tie) → t ≡ after s (request_calls (ruled law) s (asked c.args.request.now)) = λ law. one_call s (calls.post legs) _ t e ∙ ap (λ (a : Asked). after s (request_calls (ruled law) s a)) q in
     record {
       value = λ law. ap (λ (r : Result (Unit {0}) Refusal). given_by {B = List ℤ} (λ done. []) r) (answered s (calls.post legs) _ t e) ∙ ap (performed (ruled law) s) q;
@@ -84,7 +84,7 @@ returns-in-Split g c =
     let tie = g.R.TieRule.tie c.args.rule.now in
     let facts = c.split_among.ensures in
     let shares = c.as_slice-in-Split.result.now in
-    let q : split c.in-Split.division shares ≡ asked c.args.request.now = ap (split c.in-Split.division) c.as_slice-in-Split.ensures ∙ sym (ap asked c.in-Split.is) in
+    let q : split c.in-Split.division shares ≡ asked c.args.request.now = ap (split c.in-Split.division) c.as_slice-in-Split.ensures.value ∙ sym (ap asked c.in-Split.is) in
     let state : (law : Lawful tie) → t ≡ after s (request_calls (ruled law) s (asked c.args.request.now)) = λ law. facts.state law ∙ ap (λ (a : Asked). after s (request_calls (ruled law) s a)) q in
     record {
       value = λ law. facts.value law ∙ ap (performed (ruled law) s) q;

@@ -33,7 +33,7 @@ returns g c =
     let tie = g.R.TieRule.tie c.args.rule.now in
     let call : Lawful tie → Call = λ law. split tie law c.args.division c.args.shares.now most_shares most_shares in
     let facts = c.in_ok-split.ensures in
-    record {
+    rw (c.truncate.ensures.items, c.from_array_in-portions.ensures.items) (record {
       value = λ law. ap (λ (r : Result (List Minor × List Fraction) Refusal). given_by (λ given. amounts given.0) r) (answered s (call law) _ t (facts.step law));
       state = λ law. one_call s (call law) _ t (facts.step law);
-    }
+    })

@@ -11,4 +11,4 @@ use Rattle.runner.proofs.answers.replied.Goals as goal
 pub returns-in-Split : goal.returns-in-Split
 returns-in-Split c =
     ap (λ (bs : List ℕ). codes "ok" ++ bs)
-    (ap (flat_map amount_text) c.as_slice.ensures ∙ sym (joined-map number_text (λ (b : Minor). b.0) _) ∙ ap (λ r. flat_map number_text (numbers r)) (sym c.in-Split.is))
+    (ap (flat_map amount_text) c.as_slice.ensures.value ∙ sym (joined-map number_text (λ (b : Minor). b.0) _) ∙ ap (λ r. flat_map number_text (numbers r)) (sym c.in-Split.is))
