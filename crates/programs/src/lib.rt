@@ -4,3 +4,6 @@
 mod books;
 
 pub use books::{RECORDS, open_journal, open_sheet};
+
+#[cfg(test)]
+mod tests;
