@@ -39,7 +39,7 @@ posted_leg_lem place p l e =
       record { account = account_named p.account place a.0 a.1; currency = c.0; column = sym n.number },
     )
 
-posted_legs_lem : (place : ℕ) (ps : List Posting) (ls : List Leg) → posted_legs place ps ≡ Ok ls → (ls ≡ post_legs ps) × AllByRecursion Posted (post_legs ps)
+pub posted_legs_lem : (place : ℕ) (ps : List Posting) (ls : List Leg) → posted_legs place ps ≡ Ok ls → (ls ≡ post_legs ps) × AllByRecursion Posted (post_legs ps)
 posted_legs_lem place [] ls e = (sym (ok_same [] ls e), tt)
 posted_legs_lem place (p ∷ ps) ls e =
     let a = and_then_lem (posted_leg place p) _ ls e in
@@ -76,17 +76,17 @@ pub is_zero_lem : (z : ℤ) → is_zero z ≡ true → z ≡ pos 0
 is_zero_lem (pos n) e = ap pos (eqb-true n 0 e)
 is_zero_lem (negsuc n) e = let z : ◌≡◌ {A = ℕ} 0 1 = cc in absurd (omega arith)
 
-balanced_none : (o : Option Currency) (x : Unit {0}) → balance o ≡ Ok x → o ≡ None
+pub balanced_none : (o : Option Currency) (x : Unit {0}) → balance o ≡ Ok x → o ≡ None
 balanced_none None x e = refl
 balanced_none (Some c) x e = let z : ◌≡◌ {A = ℕ} 0 1 = cc in absurd (omega arith)
 
-currency_sum : (ls : List Leg) (x : Unit {0}) → balance (unbalanced ls) ≡ Ok x → (c : Currency) → column_sum ls (number_of c) ≡ pos 0
+pub currency_sum : (ls : List Leg) (x : Unit {0}) → balance (unbalanced ls) ≡ Ok x → (c : Currency) → column_sum ls (number_of c) ≡ pos 0
 currency_sum ls x e c =
     let all = none_first (λ c. not (is_zero (column_sum ls (number_of c)))) currencies (balanced_none (unbalanced ls) x e) in
     is_zero_lem (column_sum ls (number_of c)) (not-false _ (each_currency (λ c. not (is_zero (column_sum ls (number_of c))) ≡ false) all c))
 
 -- a column in which a leg stands is a currency's, and any other is empty
-column_sum_lem : (ls qs : List Leg) (k : ℕ) → ((c : Currency) → column_sum ls (number_of c) ≡ pos 0) → AllByRecursion Posted qs → (AllByRecursion (λ l. l.column ≢ k) qs → column_sum ls k ≡ pos 0) → column_sum ls k ≡ pos 0
+pub column_sum_lem : (ls qs : List Leg) (k : ℕ) → ((c : Currency) → column_sum ls (number_of c) ≡ pos 0) → AllByRecursion Posted qs → (AllByRecursion (λ l. l.column ≢ k) qs → column_sum ls k ≡ pos 0) → column_sum ls k ≡ pos 0
 column_sum_lem ls [] k z h f = f tt
 column_sum_lem ls (q ∷ qs) k z h f =
     by_equal q.column k

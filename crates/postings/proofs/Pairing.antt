@@ -1,5 +1,5 @@
 -- Legs that come in pairs, out of one account and into another. Assumes nothing.
-use Rattle.std.proofs.Common.{◌≡◌, ℕ, zero, suc, ◌≤◌, true, leb, List, [], ◌∷◌, ◌++◌, length, ℤ, pos, negsuc, ◌+ℤ◌, neg_ℤ, nat_abs, refl, arith}
+use Rattle.std.proofs.Common.{◌≡◌, ℕ, ◌≤◌, true, leb, List, [], ◌∷◌, ◌++◌, length, ℤ, pos, ◌+ℤ◌, neg_ℤ, nat_abs, refl, arith}
 use Rattle.std.specs.List.{AllByRecursion}
 use Rattle.std.proofs.ByRecursion.{All-append}
 use Rattle.std.proofs.lemmas.Int.{ints}
@@ -58,13 +58,8 @@ two_paired a b k x y ha hb hk hx hy e = record {
       omega (arith, ints));
 }
 
-pub abs_neg : (x : ℤ) → nat_abs (neg_ℤ x) ≡ nat_abs x
-abs_neg (pos zero) = refl
-abs_neg (pos (suc n)) = refl
-abs_neg (negsuc n) = refl
-
 pub transfer_paired : (p q k : ℕ) (x : ℤ) → p ≤ most_account → q ≤ most_account → k ≤ most_column → nat_abs x ≤ most_amount → Paired (transfer p q k x)
-transfer_paired p q k x hp hq hk hx = two_paired p q k (neg_ℤ x) x hp hq hk (omega (arith, abs_neg x)) hx (omega (arith, ints))
+transfer_paired p q k x hp hq hk hx = two_paired p q k (neg_ℤ x) x hp hq hk (omega (arith, ints)) hx (omega (arith, ints))
 
 transfers_paired : (p q : ℕ) (zs : List Residue) → p ≤ most_account → q ≤ most_account → AllByRecursion (λ z. nat_abs z.parts.0 ≤ most_amount) zs → Paired (transfers p q zs)
 transfers_paired p q [] hp hq h = none_paired

@@ -1,8 +1,7 @@
 -- The legs of a split, one share after the other. Assumes nothing.
-use Rattle.std.proofs.Common.{◌≡◌, ℕ, ◌+◌, ◌<◌, ◌≤◌, true, ◌≢◌, List, [], ◌∷◌, map, length, get_or, drop, ℤ, pos, ◌+ℤ◌, neg_ℤ, nat_abs, Ok, Err, fold, Result, sym, refl, ◌∙◌, subst, arith}
+use Rattle.std.proofs.Common.{◌≡◌, ℕ, ◌+◌, ◌<◌, ◌≤◌, true, ◌≢◌, ◌⊎◌, List, [], ◌∷◌, map, length, ℤ, pos, ◌+ℤ◌, neg_ℤ, nat_abs, Ok, Err, fold, Result, sym, refl, ap, ◌∙◌, subst, ⊎_elim, arith}
 use Rattle.std.specs.List.{range_with_len, AllByRecursion}
 use Rattle.std.proofs.ByRecursion.{All-from_get_or}
-use Rattle.std.proofs.lemmas.List.{drop_more, at_drop_all}
 use Rattle.std.proofs.lemmas.Int.{ints}
 use Rattle.register.specs.Register.{Refusal}
 use Rattle.money.specs.declared.currency.Currency.{Currency}
@@ -30,25 +29,13 @@ use Rattle.ledger.proofs.Columns.{columns_numbered}
 use Rattle.ledger.proofs.Rises.{by_equal, in_column_here, in_column_off, column_off}
 use Rattle.model.specs.declared.request.Division.{Division}
 use Rattle.model.specs.Postings.{portion_legs, split_legs}
-use Rattle.postings.proofs.Pairing.{abs_neg, named_within}
+use Rattle.postings.proofs.Pairing.{named_within}
 
-module _ (k : ℕ) (shares : List Share) (given : List Minor) where
-  -- the leg of the share at place i, then those of the shares after it
-  pub portions_more : (i : ℕ) → i < length shares → i < length given
-      → portion_legs k (drop i shares) (drop i given) ≡ leg (get_or shares i no_share).account k (get_or given i (minors 0)).0 ∷ portion_legs k (drop (i + 1) shares) (drop (i + 1) given)
-  portions_more i l m = λ j. portion_legs k (drop_more shares i no_share l j) (drop_more given i (minors 0) m j)
-
-  -- no share is left
-  pub shares_end : (i : ℕ) → length shares ≤ i → portion_legs k (drop i shares) (drop i given) ≡ []
-  shares_end i h = at_drop_all (λ ss. portion_legs k ss (drop i given)) shares i h
-
-  no_portion : (ss : List Share) → portion_legs k ss [] ≡ []
-  no_portion [] = refl
-  no_portion (s ∷ ss) = refl
-
-  -- no portion is left
-  pub portions_end : (i j : ℕ) → length given ≤ i → portion_legs k (drop j shares) (drop i given) ≡ []
-  portions_end i j h = at_drop_all (portion_legs k (drop j shares)) given i h ∙ no_portion (drop j shares)
+-- where no share or no portion is left, no leg is
+pub no_legs : (k : ℕ) (shares : List Share) (given : List Minor) → (shares ≡ []) ⊎ (given ≡ []) → portion_legs k shares given ≡ []
+no_legs k [] given e = refl
+no_legs k (s ∷ shares) [] e = refl
+no_legs k (s ∷ shares) (m ∷ given) e = absurd (⊎_elim (λ h. let n = ap length h in omega arith) (λ h. let n = ap length h in omega arith) e)
 
 -- ---- a split makes an entry
 
@@ -123,7 +110,7 @@ split_entry tie law d c shares m n account h =
     record {
       few = omega (arith, portions_few k shares given, ok.1.shares_most);
       each = (
-        record { account = named_within d.account account; column = column; amount = omega (arith, abs_neg z, most) },
+        record { account = named_within d.account account; column = column; amount = omega (arith, ints, most) },
         portions_range k column shares given (All-from_get_or (λ s. named s.account ≡ true) shares no_share ok.1.account) (portions_small tie law (nat_abs z) shares heavy most),
       );
       balanced = λ j. by_equal k j

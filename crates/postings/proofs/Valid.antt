@@ -1,8 +1,8 @@
 -- The legs of every accepted call make an entry. Assumes nothing.
 use Rattle.std.proofs.Common.{◌≡◌, ℕ, ◌*◌, ◌<◌, ◌≤◌, Bool, true, false, cond, ◌&&◌, leb, List, ◌++◌, length, ℤ, pos, negsuc, ◌*ℤ◌, neg_ℤ, nat_abs, Some, Ok, Err, Result, sym, refl, ap, ◌∙◌, subst, mul-le-mul, arith}
 use lib.Signed.{le_z}
-use Rattle.std.proofs.lemmas.Int.{ints}
-use Rattle.std.proofs.lemmas.Bool.{cond-true, leb-true, false≢true}
+use Rattle.std.proofs.lemmas.Int.{ints, unsigned_abs-mul}
+use Rattle.std.proofs.lemmas.Bool.{leb-true, false≢true}
 use Rattle.std.proofs.lemmas.Bool.Decides.{nat_tests}
 use Rattle.register.specs.Register.{Refusal, by_book}
 use Rattle.money.specs.declared.conversion.Conversion.{Conversion}
@@ -35,15 +35,14 @@ use Rattle.model.specs.Postings.{transfer, transfers, conversion_legs, carry_leg
 use Rattle.model.specs.Results.{and_then, unless}
 use Rattle.model.specs.State.{State, exchange_account, docket_account}
 use Rattle.model.specs.Step.{Movement, unchanged, fitness, posted_legs, least_legs, unbalanced, balance, posting}
-use Rattle.postings.specs.Drafts.{entry_legs}
+use Rattle.model.proofs.Accepted.{ok_same}
 use Rattle.postings.specs.Laws.{SmallResidues, CallsMakeEntries}
 use Rattle.postings.specs.Posts.{lowest_unbalanced, posted}
-use Rattle.postings.proofs.Pairing.{paired_entry, paired_append, two_paired, abs_neg, transfer_paired, residues_paired, residues_few}
+use Rattle.postings.proofs.Pairing.{paired_entry, paired_append, two_paired, transfer_paired, residues_paired, residues_few}
 use Rattle.postings.proofs.Posting.{posted_entry}
 use Rattle.postings.proofs.Splitting.{split_entry}
-use Rattle.postings.proofs.Sweeping.{parts_small, abs_product}
+use Rattle.postings.proofs.Sweeping.{parts_small}
 pub use Rattle.postings.proofs.Pairing.{named_within}
-pub use Rattle.postings.proofs.Sweeping.{swept}
 
 money_column : (c : Currency) → number_of c ≤ most_column
 money_column c = columns_numbered.within (Money c)
@@ -53,9 +52,6 @@ money_column c = columns_numbered.within (Money c)
 accepted : (b : Bool) (f : Refusal) (r : Result Conversion Refusal) (c : Conversion) → cond b r (Err f) ≡ Ok c → (b ≡ true) × (r ≡ Ok c)
 accepted false f r c h = absurd (let z : ◌≡◌ {A = ℕ} 0 1 = cc in omega arith)
 accepted true f r c h = (refl, h)
-
-conversion_same : (a b : Conversion) → ◌≡◌ {A = Result Conversion Refusal} (Ok a) (Ok b) → a ≡ b
-conversion_same a b h = cc
 
 amount_small : (amount : ℤ) → convertible amount ≡ true → nat_abs amount ≤ most_amount
 amount_small (pos n) h = grind (arith, nat_tests)
@@ -76,7 +72,7 @@ carried : (route : Route) (amount : ℤ) (c : Conversion) → converted route am
 carried route amount c h =
     let a = accepted (convertible amount) (by_book 5 0) (bounded (exchanged route (nat_abs amount))) c h in
     let b = accepted (le_z (booked (exchanged route (nat_abs amount))).0 (pos most_amount)) (by_book 9 0) (Ok (exchanged route (nat_abs amount))) c a.1 in
-    let e = conversion_same (exchanged route (nat_abs amount)) c b.1 in
+    let e = ok_same (exchanged route (nat_abs amount)) c b.1 in
     record {
       is = sym e;
       amount_most = amount_small amount a.0;
@@ -133,11 +129,11 @@ pub sweep_entry : (account : ℕ) (f : FractionColumn) (q : ℤ) → account ≤
 sweep_entry account f q h m =
     let k = number_of (currency_of f) in
     let z = q *ℤ pos (whole_parts f) in
-    let small : nat_abs z ≤ most_amount = omega (arith, abs_product q (whole_parts f), mul-le-mul m (parts_small f).1) in
+    let small : nat_abs z ≤ most_amount = omega (arith, unsigned_abs-mul q (pos (whole_parts f)), mul-le-mul m (parts_small f).1) in
     paired_entry (sweep_legs account f q)
     (paired_append _ _
-    (two_paired account exchange_account k q (neg_ℤ q) h (omega arith) (money_column (currency_of f)) (omega arith) (omega (arith, abs_neg q)) (omega (arith, ints)))
-    (two_paired account exchange_account (fraction_number f) (neg_ℤ z) z h (omega arith) (fraction_bounds f).1 (omega (arith, abs_neg z)) small (omega (arith, ints))))
+    (two_paired account exchange_account k q (neg_ℤ q) h (omega arith) (money_column (currency_of f)) (omega arith) (omega (arith, ints)) (omega (arith, ints)))
+    (two_paired account exchange_account (fraction_number f) (neg_ℤ z) z h (omega arith) (fraction_bounds f).1 (omega (arith, ints)) small (omega (arith, ints))))
     (omega arith)
 
 -- ---- posts
@@ -173,24 +169,7 @@ calls_make_entries = record {
 
 -- ---- the same for the test, as the contracts have it
 
-pub whole_entry : (ls : List Leg) → is_entry ls ≡ true → entry_legs ls ≡ ls
-whole_entry ls h = cond-true _ _ _ h
-
-pub conversion_is_entry : (x : Exchange) (from to : Currency) (route : Route) (c : Conversion) (number : ℕ)
-    → named x.from ≡ true → named x.to ≡ true → converted route x.amount.0 ≡ Ok c
-    → is_entry (conversion_legs x from to (booked c) (record_of number from to c)) ≡ true
-conversion_is_entry x from to route c number hf ht h = legs_entry _ (conversion_entry x from to route c number hf ht h)
-
-pub carry_is_entry : (r : Record) (account : ℕ) → SmallResidues r → account ≤ most_account → is_entry (carry_legs r account) ≡ true
-carry_is_entry r account s h = legs_entry _ (carry_entry r account s h)
-
-pub sweep_is_entry : (account : ℕ) (f : FractionColumn) (q : ℤ) → account ≤ most_account → nat_abs q ≤ most_swept → is_entry (sweep_legs account f q) ≡ true
-sweep_is_entry account f q h m = legs_entry _ (sweep_entry account f q h m)
-
 pub split_is_entry : (tie : Tie) → Lawful tie → (d : Division) (c : Currency) (shares : List Share) (m n : ℕ)
     → named d.account ≡ true → verdict d.amount.0 shares m n ≡ Ok tt
     → is_entry (split_legs d c shares (portions tie (nat_abs d.amount.0) shares)) ≡ true
 split_is_entry tie law d c shares m n account h = legs_entry _ (split_entry tie law d c shares m n account h)
-
-pub post_is_entry : (ps : List Posting) (ls : List Leg) → posted ps ≡ Ok ls → is_entry ls ≡ true
-post_is_entry ps ls h = legs_entry ls (posted_entry ps ls h)

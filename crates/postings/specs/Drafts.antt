@@ -1,12 +1,13 @@
 -- Legs on their way into an entry. Assumes nothing.
-use Rattle.std.specs.Prelude.{cond, ◌&&◌, List, [], ◌∷◌, ◌++◌, length, take, Some, None, Option, nat_lt}
+use Rattle.std.specs.Prelude.{cond, ◌&&◌, List, [], ◌∷◌, ◌++◌, length, Some, None, Option, nat_lt}
+use Rattle.std.specs.Option.{option_map}
 use Rattle.ledger.specs.declared.leg.Leg.{Leg}
 use Rattle.ledger.specs.Entries.{most_legs, in_range, is_entry}
 use Rattle.postings.specs.declared.draft.Draft.{Draft}
 
 -- the legs of a draft, unless it is void
 abbrev pub drawn : Draft → Option (List Leg)
-drawn d = cond d.valid (Some (take d.len d.legs)) None
+drawn d = option_map (λ legs. legs.items) d.legs
 
 -- one leg more, unless it is out of range or one too many
 unfoldable pub with_leg : Option (List Leg) → Leg → Option (List Leg)

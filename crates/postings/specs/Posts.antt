@@ -1,5 +1,6 @@
 -- What a post answers, but for the book's fitness. Assumes nothing.
-use Rattle.std.specs.Prelude.{ℕ, ◌&&◌, List, length, take, Ok, Err, Option, Result, nat_le}
+use Rattle.std.specs.Prelude.{◌&&◌, List, length, Ok, Err, Option, Result, nat_le}
+use Rattle.arrayvec.specs.ArrayVec.{ArrayVec}
 use Rattle.register.specs.Register.{Refusal}
 use Rattle.money.specs.declared.currency.Currency.{Currency}
 use Rattle.ledger.specs.declared.entry.Entry.{Entry}
@@ -27,7 +28,7 @@ abbrev pub legs_in : Result Entry Refusal → Result (List Leg) Refusal
 legs_in (Ok e) = Ok (legs_of e)
 legs_in (Err refusal) = Err refusal
 
--- an answer, with the first n legs of the list
-abbrev pub fronts : ℕ → Result (List Leg) Refusal → Result (List Leg) Refusal
-fronts n (Ok ls) = Ok (take n ls)
-fronts n (Err refusal) = Err refusal
+-- an answer, with the legs of the vector in its place
+abbrev pub items_in : Result (ArrayVec Leg) Refusal → Result (List Leg) Refusal
+items_in (Ok v) = Ok v.items
+items_in (Err refusal) = Err refusal

@@ -5,7 +5,7 @@ ghost use Rattle.model.specs.Postings.{conversion_legs};
 ghost use Rattle.postings.specs.Drafts.{entry_legs};
 
 use crate::account::{DOCKET_ACCOUNT, EXCHANGE_ACCOUNT};
-use crate::draft::Draft;
+use crate::draft::{Accounts, Draft};
 use ledger::Entry;
 use model::{Exchange, Record};
 use money::{Currency, Minor};
@@ -21,9 +21,13 @@ pub fn conversion_entry(
 ) -> Entry
     ensures { legs_of result ≡ entry_legs (conversion_legs exchange from to booked docketed) }
 {
-    Draft::new()
-        .with_money(exchange.from, EXCHANGE_ACCOUNT, from, exchange.amount)
-        .with_money(EXCHANGE_ACCOUNT, exchange.to, to, booked)
-        .with_residues(EXCHANGE_ACCOUNT, DOCKET_ACCOUNT, docketed)
-        .entry()
+    let mut draft = Draft::new();
+    draft.add_money(
+        Accounts::new(exchange.from, EXCHANGE_ACCOUNT),
+        from,
+        exchange.amount,
+    );
+    draft.add_money(Accounts::new(EXCHANGE_ACCOUNT, exchange.to), to, booked);
+    draft.add_residues(Accounts::new(EXCHANGE_ACCOUNT, DOCKET_ACCOUNT), docketed);
+    draft.entry()
 }

@@ -5,25 +5,14 @@ ghost use Rattle.model.specs.Docket.{record_of, euro_left, national_left};
 use model::{Record, Standing};
 use money::{Conversion, Currency, Parts};
 
-const NO_PARTS: Parts = Parts(0);
-
-/// The euro residue of a conversion, 0 where absent.
-fn euro_residue(conversion: Conversion) -> Parts
-    ensures { result ≡ euro_left conversion }
+/// The euro residue of a conversion and its national residue, 0 where absent.
+fn residues(conversion: Conversion) -> (Parts, Parts)
+    ensures { result ≡ (euro_left conversion, national_left conversion) }
 {
     match conversion {
-        Conversion::IntoEuro { euro, .. } | Conversion::Between { euro, .. } => euro,
-        Conversion::FromEuro { .. } => NO_PARTS,
-    }
-}
-
-/// The national residue of a conversion, 0 where absent.
-fn national_residue(conversion: Conversion) -> Parts
-    ensures { result ≡ national_left conversion }
-{
-    match conversion {
-        Conversion::FromEuro { national, .. } | Conversion::Between { national, .. } => national,
-        Conversion::IntoEuro { .. } => NO_PARTS,
+        Conversion::IntoEuro { euro, .. } => (euro, Parts(0)),
+        Conversion::FromEuro { national, .. } => (Parts(0), national),
+        Conversion::Between { euro, national, .. } => (euro, national),
     }
 }
 
@@ -31,12 +20,13 @@ fn national_residue(conversion: Conversion) -> Parts
 pub fn record_of(number: u32, from: Currency, to: Currency, conversion: Conversion) -> Record
     ensures { result ≡ record_of number from to conversion }
 {
+    let (euro, national) = residues(conversion);
     Record {
         number,
         from,
         to,
-        euro: euro_residue(conversion),
-        national: national_residue(conversion),
+        euro,
+        national,
         standing: Standing::Out,
     }
 }

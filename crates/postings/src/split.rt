@@ -21,9 +21,10 @@ pub fn split_entry(
     ensures { legs_of result ≡ entry_legs (split_legs division currency shares.now portions.now) }
 {
     let column = currency.number();
-    let mut draft = Draft::new().with_leg(division.account, column, -(division.amount.0 as i128));
-    for i in 0..shares.len().min(portions.len()) {
-        draft = draft.with_leg(shares[i].account, column, portions[i].0 as i128);
+    let mut draft = Draft::new();
+    draft.add_leg(division.account, column, -(division.amount.0 as i128));
+    for (share, portion) in shares.iter().zip(portions) {
+        draft.add_leg(share.account, column, portion.0 as i128);
     }
     draft.entry()
 }

@@ -20,13 +20,7 @@ pub fn sweepable(column: FractionColumn, cell: i64) -> Minor
     ensures swept { Swept column cell result.0 }
 {
     let whole = cell / column.parts() as i64;
-    if whole > MOST_SWEPT {
-        Minor(MOST_SWEPT)
-    } else if whole < -MOST_SWEPT {
-        Minor(-MOST_SWEPT)
-    } else {
-        Minor(whole)
-    }
+    Minor(whole.clamp(-MOST_SWEPT, MOST_SWEPT))
 }
 
 /// The parts of a column in minor units.
@@ -45,10 +39,10 @@ pub fn sweep_entry(account: u64, column: FractionColumn, swept: Minor) -> Entry
     let money = column.currency().number();
     let units = swept.0 as i128;
     let parts = parts_in(column, swept);
-    Draft::new()
-        .with_leg(account, money, units)
-        .with_leg(EXCHANGE_ACCOUNT, money, -units)
-        .with_leg(account, column.number(), -parts)
-        .with_leg(EXCHANGE_ACCOUNT, column.number(), parts)
-        .entry()
+    let mut draft = Draft::new();
+    draft.add_leg(account, money, units);
+    draft.add_leg(EXCHANGE_ACCOUNT, money, -units);
+    draft.add_leg(account, column.number(), -parts);
+    draft.add_leg(EXCHANGE_ACCOUNT, column.number(), parts);
+    draft.entry()
 }

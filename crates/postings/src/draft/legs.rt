@@ -1,22 +1,25 @@
 //! Adding legs to a draft, and the entry that it makes.
-ghost use Rattle.std.specs.Prelude.{◌≡◌, ◌&&◌, [], Some, nat_lt};
-ghost use Rattle.ledger.specs.Entries.{in_range, most_legs};
+ghost use Rattle.std.specs.Prelude.{◌≡◌, [], Some, None, if◌then◌else◌};
+ghost use Rattle.std.specs.Option.{option_and_then};
+ghost use Rattle.ledger.specs.Entries.{in_range};
 ghost use Rattle.ledger.specs.Held.{legs_of};
 ghost use Rattle.ledger.specs.Legs.{leg};
 ghost use Rattle.postings.specs.Drafts.{drawn, with_leg, entry_in};
 
-use super::{BLANK, Draft};
-use ledger::{Entry, Leg, MOST_ACCOUNT, MOST_COLUMN, MOST_LEGS};
-use money::MOST_AMOUNT;
+use super::Draft;
+use arrayvec::ArrayVec;
+use ledger::{Entry, Leg};
 
-/// Whether account, column and amount are in range.
-fn in_range(account: u64, column: u8, amount: i128) -> bool
-    ensures { result ≡ in_range (leg account column amount) }
+/// The leg, if account, column and amount are in range.
+fn leg_in_range(account: u64, column: u8, amount: i128) -> Option<Leg>
+    ensures { result ≡ (if in_range (leg account column amount) then Some (leg account column amount) else None) }
 {
-    account <= MOST_ACCOUNT as u64
-        && column <= MOST_COLUMN
-        && amount >= -MOST_AMOUNT as i128
-        && amount <= MOST_AMOUNT as i128
+    let leg = Leg {
+        account: u8::try_from(account).ok()?,
+        column,
+        amount: i64::try_from(amount).ok()?,
+    };
+    leg.is_in_range().then_some(leg)
 }
 
 impl Draft {
@@ -25,52 +28,35 @@ impl Draft {
         ensures { drawn result ≡ Some [] }
     {
         Draft {
-            legs: [BLANK; MOST_LEGS],
-            len: 0,
-            valid: true,
+            legs: Some(ArrayVec::new()),
         }
     }
 
-    /// Whether the draft takes one more such leg.
-    fn takes(&self, account: u64, column: u8, amount: i128) -> bool
-        ensures { result ≡ (self.now.valid && (nat_lt self.now.len most_legs && in_range (leg account column amount))) }
+    /// Adds a leg, if the draft takes it.
+    #[tactic(auto, unfolding(crate::specs::Drafts::with_leg))]
+    fn try_add_leg(&mut self, account: u64, column: u8, amount: i128) -> Option<()>
+        ensures { option_and_then (λ _. drawn self.new) result ≡ with_leg (drawn self.old) (leg account column amount) }
     {
-        self.valid && self.len < MOST_LEGS && in_range(account, column, amount)
+        let leg = leg_in_range(account, column, amount)?;
+        self.legs.as_mut()?.try_push(leg).ok()
     }
 
-    /// The draft with one more leg, whose account and amount may be any.
-    pub(crate) fn with_leg(self, account: u64, column: u8, amount: i128) -> Draft
-        ensures { drawn result ≡ with_leg (drawn self) (leg account column amount) }
+    /// Adds a leg, whose account and amount may be any.
+    pub(crate) fn add_leg(&mut self, account: u64, column: u8, amount: i128)
+        ensures { drawn self.new ≡ with_leg (drawn self.old) (leg account column amount) }
     {
-        let fits = self.takes(account, column, amount);
-        let Draft { mut legs, len, .. } = self;
-        if !fits {
-            return Draft {
-                legs,
-                len,
-                valid: false,
-            };
-        }
-        legs[len] = Leg {
-            account: account as u8,
-            column,
-            amount: amount as i64,
-        };
-        Draft {
-            legs,
-            len: len + 1,
-            valid: true,
+        if self.try_add_leg(account, column, amount).is_none() {
+            self.legs = None;
         }
     }
 
     /// The entry that the legs make; the empty one where they make none.
-    pub(crate) fn entry(self) -> Entry
-        ensures { legs_of result ≡ entry_in (drawn self) }
+    pub(crate) fn entry(&self) -> Entry
+        ensures { legs_of result ≡ entry_in (drawn self.now) }
     {
-        let mut entry = Entry::empty();
-        if self.valid {
-            entry.make(&self.legs[0..self.len]);
-        }
-        entry
+        self.legs
+            .as_ref()
+            .and_then(|legs| Entry::new(legs.as_slice()))
+            .unwrap_or_else(Entry::empty)
     }
 }

@@ -2,7 +2,7 @@
 ghost use Rattle.std.specs.Prelude.{◌≡◌};
 ghost use Rattle.ledger.specs.Columns.{fraction_number};
 ghost use Rattle.money.specs.Table.{number_of};
-ghost use Rattle.model.specs.Docket.{euro_fraction, national_fraction, residues_of};
+ghost use Rattle.model.specs.Docket.{residues_of};
 ghost use Rattle.model.specs.Postings.{transfer, transfers};
 ghost use Rattle.postings.specs.Drafts.{drawn, with_legs};
 
@@ -11,64 +11,60 @@ use ledger::FractionColumn;
 use model::Record;
 use money::{Currency, Minor, Parts};
 
+/// The account that an amount leaves, and the one that it goes to.
+#[derive(Clone, Copy)]
+pub(crate) struct Accounts {
+    from: u64,
+    to: u64,
+}
+
+impl Accounts {
+    /// From one account to another.
+    pub(crate) fn new(from: u64, to: u64) -> Accounts
+        ensures { result ≡ record { from = from; to = to } }
+    {
+        Accounts { from, to }
+    }
+}
+
 impl Draft {
     /// An amount in a column from one account to another.
-    fn with_transfer(self, from: u64, to: u64, column: u8, amount: i64) -> Draft
-        ensures { drawn result ≡ with_legs (drawn self) (transfer from to column amount) }
+    fn add_transfer(&mut self, accounts: Accounts, column: u8, amount: i64)
+        ensures { drawn self.new ≡ with_legs (drawn self.old) (transfer accounts.from accounts.to column amount) }
     {
-        self.with_leg(from, column, -(amount as i128))
-            .with_leg(to, column, amount as i128)
+        self.add_leg(accounts.from, column, -(amount as i128));
+        self.add_leg(accounts.to, column, amount as i128);
     }
 
+    // Minor units and parts each have a way in of their own, so that neither gets into a column of the other.
+
     /// Minor units of a currency from one account to another.
-    pub(crate) fn with_money(self, from: u64, to: u64, currency: Currency, amount: Minor) -> Draft
-        ensures { drawn result ≡ with_legs (drawn self) (transfer from to (number_of currency) amount.0) }
+    pub(crate) fn add_money(&mut self, accounts: Accounts, currency: Currency, amount: Minor)
+        ensures { drawn self.new ≡ with_legs (drawn self.old) (transfer accounts.from accounts.to (number_of currency) amount.0) }
     {
-        self.with_transfer(from, to, currency.number(), amount.0)
+        self.add_transfer(accounts, currency.number(), amount.0);
     }
 
     /// Parts in a fraction column from one account to another.
-    pub(crate) fn with_parts(
-        self,
-        from: u64,
-        to: u64,
-        column: FractionColumn,
-        parts: Parts,
-    ) -> Draft
-        ensures { drawn result ≡ with_legs (drawn self) (transfer from to (fraction_number column) parts.0) }
+    fn add_parts(&mut self, accounts: Accounts, column: FractionColumn, parts: Parts)
+        ensures { drawn self.new ≡ with_legs (drawn self.old) (transfer accounts.from accounts.to (fraction_number column) parts.0) }
     {
-        self.with_transfer(from, to, column.number(), parts.0)
+        self.add_transfer(accounts, column.number(), parts.0);
     }
 
-    /// Parts in the euro fraction column of a currency; the euro itself has none.
-    fn with_euro_fraction(self, from: u64, to: u64, currency: Currency, parts: Parts) -> Draft
-        ensures { drawn result ≡ with_legs (drawn self) (transfers from to (euro_fraction currency parts)) }
+    /// The residues of a record, euro first, from one account to another. The euro itself has no fractions.
+    pub(crate) fn add_residues(&mut self, accounts: Accounts, docketed: Record)
+        ensures { drawn self.new ≡ with_legs (drawn self.old) (transfers accounts.from accounts.to (residues_of docketed)) }
     {
-        match currency {
-            Currency::Euro => self,
-            Currency::National(currency) => {
-                self.with_parts(from, to, FractionColumn::Euro(currency), parts)
-            }
+        if let Currency::National(currency) = docketed.from {
+            self.add_parts(accounts, FractionColumn::Euro(currency), docketed.euro);
         }
-    }
-
-    /// Parts in the national fraction column of a currency; the euro itself has none.
-    fn with_national_fraction(self, from: u64, to: u64, currency: Currency, parts: Parts) -> Draft
-        ensures { drawn result ≡ with_legs (drawn self) (transfers from to (national_fraction currency parts)) }
-    {
-        match currency {
-            Currency::Euro => self,
-            Currency::National(currency) => {
-                self.with_parts(from, to, FractionColumn::National(currency), parts)
-            }
+        if let Currency::National(currency) = docketed.to {
+            self.add_parts(
+                accounts,
+                FractionColumn::National(currency),
+                docketed.national,
+            );
         }
-    }
-
-    /// The residues of a record, euro first, from one account to another.
-    pub(crate) fn with_residues(self, from: u64, to: u64, docketed: Record) -> Draft
-        ensures { drawn result ≡ with_legs (drawn self) (transfers from to (residues_of docketed)) }
-    {
-        self.with_euro_fraction(from, to, docketed.from, docketed.euro)
-            .with_national_fraction(from, to, docketed.to, docketed.national)
     }
 }

@@ -1,27 +1,20 @@
--- The currencies are looked through one after the other. Assumes nothing.
-use Rattle.std.proofs.Common.{◌≡◌, sym, refl, ap, ◌∙◌, arith, to_z, of_z}
-use mir.Syntax.{w128}
-use Rattle.std.proofs.lemmas.Int.{to_z-of_z}
+-- The first currency that is not balanced. Assumes nothing.
+use Rattle.std.proofs.Common.{Bool, not, ◌∙◌, rules}
+use borrow.Author.Tests.{tests}
+use Rattle.std.proofs.lemmas.Iterator.{YieldsList-from_slice}
+use Rattle.std.proofs.lemmas.Iterator.Search.{find_from_yields_List}
+use Rattle.money.specs.declared.currency.Currency.{Currency}
+use Rattle.money.specs.Table.{number_of, currencies}
+use Rattle.ledger.specs.Entries.{is_zero}
 use Rattle.ledger.specs.Legs.{column_sum}
-use Rattle.postings.proofs.Posting.{unbalanced_from, unbalanced_start, unbalanced_end, unbalanced_here, unbalanced_more}
+use Rattle.postings.specs.Posts.{lowest_unbalanced}
+use Rattle.postings.proofs.Posting.{find_first}
 use Rattle.postings.proofs.post.lowest_unbalanced.Goals as goal
 
-pub loop-currency-init : goal.loop-currency-init
-loop-currency-init c = unbalanced_start c.args.legs.now
-
 pub returns : goal.returns
+unfolding lowest_unbalanced
 returns c =
-    let e : c.loop-currency.currency-index ≡ 12 = omega arith in
-    sym (c.loop-currency.invariant ∙ ap (unbalanced_from c.args.legs.now) e ∙ unbalanced_end c.args.legs.now)
-
-pub returns-then-column_sum-ne0 : goal.returns-then-column_sum-ne0
-returns-then-column_sum-ne0 c =
-    let ls = c.args.legs.now in
-    sym (c.loop-currency.invariant ∙ unbalanced_here ls c.loop-currency.currency-index _ (omega arith) refl
-    (λ z. c.if-column_sum-ne0.true (ap (of_z w128) (c.column_sum.ensures.value ∙ ap (column_sum ls) c.number.ensures ∙ z))))
-
-pub loop-currency-preserved : goal.loop-currency-preserved
-loop-currency-preserved c =
-    let ls = c.args.legs.now in
-    c.loop-currency.invariant ∙ unbalanced_more ls c.loop-currency.currency-index _ (omega arith) refl
-    (sym (c.column_sum.ensures.value ∙ ap (column_sum ls) c.number.ensures) ∙ sym (to_z-of_z w128 c.column_sum.result (record { sfits = c.column_sum.type_inv })) ∙ ap (to_z w128) c.if-column_sum-ne0.false)
+    let open_in : Currency → Bool = λ k. not (is_zero (column_sum c.args.legs.now (number_of k))) in
+    c.copied.ensures
+    ∙ find_from_yields_List open_in _ _ _ c.find.ensures.ran (YieldsList-from_slice currencies c.iter.ensures.rest) (λ x b q k. search (rules, tests))
+    ∙ find_first open_in currencies

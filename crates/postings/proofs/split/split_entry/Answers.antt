@@ -1,42 +1,29 @@
--- One share more, or none left. Assumes nothing.
-use Rattle.std.proofs.Common.{◌≡◌, ◌+◌, ◌<◌, ◌≤◌, [], ◌∷◌, length, drop, neg_ℤ, sym, refl, ap, ◌∙◌, ⊎_elim, arith}
+-- Where no share or no portion is left, no leg is. Assumes nothing.
+use Rattle.std.proofs.Common.{◌≡◌, pos, ◌-ℤ◌, neg_ℤ, sym, ap, ◌∙◌, arith, w64, SFits, to_z, of_z, rules}
+use mir.Syntax.{w128}
 use Rattle.std.proofs.lemmas.Int.{ints}
-use Rattle.std.proofs.lemmas.Bool.{cases_lt}
+use Rattle.std.proofs.lemmas.Slice.Zip.{either_empty_from_Zip}
 use Rattle.ledger.specs.Legs.{leg}
-use Rattle.model.specs.Postings.{portion_legs}
-use Rattle.postings.specs.Drafts.{drawn, with_leg, with_legs, entry_in, entry_legs}
-use Rattle.postings.proofs.Drawing.{leg_same, drawn_first, drawn_up}
-use Rattle.postings.proofs.Splitting.{portions_more, shares_end, portions_end}
+use Rattle.model.specs.Postings.{portion_legs, split_legs}
+use Rattle.postings.specs.Drafts.{drawn, with_leg, with_legs, entry_in}
+use Rattle.postings.proofs.Drawing.{drawn_up, widened, negated}
+use Rattle.postings.proofs.Splitting.{no_legs}
 use Rattle.postings.proofs.split.split_entry.Goals as goal
-
-pub loop-i-preserved : goal.loop-i-preserved
-loop-i-preserved c =
-    let k = c.number-column.result in
-    let i = c.loop-i.i in
-    let ss = c.args.shares.now in
-    let ps = c.args.portions.now in
-    let rest = portion_legs k (drop (i + 1) ss) (drop (i + 1) ps) in
-    ap (λ o. with_legs o rest) (c.with_leg-draft-in-loop-i.ensures ∙ ap (with_leg (drawn c.loop-i.draft)) (leg_same _ _ _ _ _ refl (omega (arith, ints))))
-    ∙ sym (ap (with_legs (drawn c.loop-i.draft)) (portions_more k ss ps i (omega arith) (omega arith)))
-    ∙ c.loop-i.invariant
 
 pub returns : goal.returns
 returns c =
     let d = c.args.division in
-    let k = c.number-column.result in
-    let i = c.loop-i.i in
     let ss = c.args.shares.now in
     let ps = c.args.portions.now in
-    let none : portion_legs k (drop i ss) (drop i ps) ≡ [] =
-    ⊎_elim
-    (λ (l : i < length ss). portions_end k ss ps i i (omega (arith, c.min-i-end.ensures)))
-    (λ (l : length ss ≤ i). shares_end k ss ps i l)
-    (cases_lt i (length ss)) in
+    let z = d.amount.0 in
+    let fits : SFits w64 z = search rules in
+    let out : to_z w128 (of_z w128 (pos 0 -ℤ to_z w128 (of_z w128 (to_z w64 (of_z w64 z))))) ≡ neg_ℤ z = rw (widened z fits) (negated z (omega (arith, ints))) in
+    let none = no_legs c.number-column.result _ _ (either_empty_from_Zip c.loop-share.share-iterator c.next.new.self c.next.result c.in-None.is c.next.ensures.steps) in
+    let first = c.add_leg.ensures ∙ (λ i. with_leg (c.new-draft.ensures i) (leg d.account (c.number-column.ensures i) (out i))) in
     c.entry.ensures
     ∙ ap entry_in (
-    sym (ap (with_legs (drawn c.loop-i.draft)) none)
-    ∙ c.loop-i.invariant
-    ∙ ap (λ o. with_legs o (portion_legs k ss ps)) (drawn_first (drawn c.new.result) (drawn c.with_leg-draft.result) (leg d.account k (neg_ℤ d.amount.0)) _ c.new.ensures c.with_leg-draft.ensures (leg_same _ _ _ _ _ refl (omega (arith, ints))))
+    sym (ap (with_legs (drawn c.loop-share.draft)) none)
+    ∙ c.loop-share.invariant
+    ∙ (λ i. with_legs (first i) (portion_legs (c.number-column.ensures i) ss ps))
     )
-    ∙ drawn_up (leg d.account k (neg_ℤ d.amount.0) ∷ portion_legs k ss ps)
-    ∙ ap (λ n. entry_legs (leg d.account n (neg_ℤ d.amount.0) ∷ portion_legs n ss ps)) c.number-column.ensures
+    ∙ drawn_up (split_legs d c.args.currency ss ps)
