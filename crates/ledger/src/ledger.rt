@@ -13,13 +13,14 @@ use std::array;
 
 /// What can be asked of a ledger. A question changes nothing.
 pub trait Balances {
-    /// The letter of the ledger's type.
-    const KIND: char;
-
-    // the same, where a clause names it
-    ghost KIND: { ℕ };
+    ghost kind: { ℕ };
 
     ghost meaning: { Self → Meaning };
+
+    // no constant: in an impl of a type with a lifetime, as each ledger's, its clause does not get a proof
+    /// The letter of the ledger's type.
+    fn kind(&self) -> char
+        ensures { result ≡ kind };
 
     /// How many more legs the ledger takes.
     fn room(&self) -> u64
