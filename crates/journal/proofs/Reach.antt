@@ -1,16 +1,17 @@
 -- Few records cannot bring a cell to its limits. Assumes nothing.
-use Rattle.std.proofs.Common.{◌≡◌, ℕ, ◌+◌, ◌*◌, ◌≤◌, min, true, List, [], ◌∷◌, length, pos, neg_ℤ, nat_abs, Ok, sym, refl, ap, ◌∙◌, ⊎_elim, arith}
+use Rattle.std.proofs.Common.{◌≡◌, ℕ, ◌+◌, ◌*◌, ◌≤◌, min, true, cond, ltb, List, [], ◌∷◌, length, pos, neg_ℤ, nat_abs, Ok, Err, sym, refl, ap, ◌∙◌, ⊎_elim, arith}
 use borrow.Author.Differences.{ints, true_is_le}
 use Rattle.std.specs.List.{AllByRecursion}
 use Rattle.std.proofs.lemmas.List.{length-take}
-use Rattle.std.proofs.lemmas.Bool.{cond-true, cond-false, and_from, lt-ltb, cases_Bool, le-ltb}
+use Rattle.std.proofs.lemmas.Bool.{cond-true, cond-false, and_from, lt-ltb, cases_Bool}
 use Rattle.std.proofs.lemmas.Bool.Decides.{nat_tests}
 use Rattle.money.specs.Conversions.{most_amount}
+use Rattle.register.specs.Register.{by_ledger}
 use Rattle.ledger.specs.declared.leg.Leg.{Leg}
 use Rattle.ledger.specs.Entries.{InRange, in_range}
 use Rattle.ledger.specs.Legs.{in_cell}
 use Rattle.ledger.specs.Limits.{accounts, columns, listed, where_listed, most_held, floor_of, ceiling_of}
-use Rattle.ledger.specs.Meaning.{Meaning, entered, fits, stops, verdict}
+use Rattle.ledger.specs.Meaning.{Meaning, entered, fits, stops, roomy, verdict}
 use Rattle.ledger.proofs.Rises.{rise_one, in_cell_here, in_cell_off, in_column_here, in_column_off, by_equal}
 use Rattle.journal.specs.Journal.{most_records, records_taken, in_record, recorded, journal_over}
 
@@ -23,7 +24,7 @@ leg_bound l a k =
     (λ f. let x : in_cell l a k ≡ pos 0 = in_cell_here l a k e ∙ in_column_off l k f in omega (arith, ints)))
     (λ e. let x : in_cell l a k ≡ pos 0 = in_cell_off l a k e in omega (arith, ints))
 
-record_bound : (r : Leg) (a k : ℕ) → nat_abs (in_record r a k) ≤ most_amount
+pub record_bound : (r : Leg) (a k : ℕ) → nat_abs (in_record r a k) ≤ most_amount
 unfolding in_record
 record_bound r a k =
     ⊎_elim
@@ -85,8 +86,8 @@ near_stops m b n (l ∷ ls) h near few =
     ∙ near_stops (entered m (l ∷ [])) (b + most_amount) (n + 1) ls h.1 one (omega arith)
 
 -- while all the records together cannot reach a limit, the room alone decides
-pub room_decides : (rs ls : List Leg) (n : ℕ) → AllByRecursion InRange ls → (n + length ls) * most_amount ≤ most_held → length ls ≤ (journal_over rs n).room → verdict (journal_over rs n) ls ≡ Ok tt
+pub room_decides : (rs ls : List Leg) (n : ℕ) → AllByRecursion InRange ls → (n + length ls) * most_amount ≤ most_held → roomy (journal_over rs n) ls ≡ verdict (journal_over rs n) ls
 unfolding verdict
-room_decides rs ls n h few room =
-    cond-false _ _ _ (le-ltb _ _ room)
-    ∙ near_stops (journal_over rs n) (n * most_amount) 1 ls h (record { floors = refl; ceilings = refl; cells = cell_bound rs n }) (omega arith)
+room_decides rs ls n h few =
+    ap (cond (ltb (journal_over rs n).room (length ls)) (Err (by_ledger 17 0 0)))
+    (sym (near_stops (journal_over rs n) (n * most_amount) 1 ls h (record { floors = refl; ceilings = refl; cells = cell_bound rs n }) (omega arith)))

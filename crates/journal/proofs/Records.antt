@@ -3,12 +3,13 @@ use Rattle.std.proofs.Common.{◌≡◌, ℕ, ◌+◌, ◌-◌, ◌<◌, ◌≤�
 use borrow.Author.Differences.{ints}
 use Rattle.std.specs.List.{AllByRecursion}
 use Rattle.std.proofs.lemmas.List.{at_drop_more, at_drop_all, take_all, append-nil, length-take, length-append, length-drop, take-append-le, take-append-drop}
-use Rattle.std.proofs.lemmas.Bool.{cond-true, cond-false, and_from, and_cases, le-leb, ltb-false, cases_Bool, cases_lt}
+use Rattle.std.proofs.lemmas.Bool.{cond-true, cond-false, and_cases, ltb-false, cases_Bool, cases_lt}
 use Rattle.ledger.specs.declared.leg.Leg.{Leg}
 use Rattle.ledger.specs.Entries.{InRange, in_range}
 use Rattle.ledger.specs.Legs.{in_cell, rise}
 use Rattle.ledger.specs.Limits.{listed, where_listed}
 use Rattle.ledger.specs.Meaning.{entered}
+use Rattle.ledger.proofs.Entries.{range_in}
 use Rattle.ledger.proofs.Meanings.{same_meaning}
 use Rattle.ledger.proofs.Rises.{in_cell_off, in_cell_here, in_column_off, by_equal}
 use Rattle.journal.specs.Journal.{most_records, records_taken, in_record, recorded, journal_over, journal_opened, written}
@@ -27,9 +28,6 @@ unfolding recorded
 none_recorded a k = refl
 
 -- a record that is a leg adds what the leg does
-range_in : (l : Leg) → InRange l → in_range l ≡ true
-range_in l h = and_from _ _ (le-leb _ _ h.account) (and_from _ _ (le-leb _ _ h.column) (le-leb _ _ h.amount))
-
 pub leg_recorded : (l : Leg) (a k : ℕ) → in_range l ≡ true → in_record l a k ≡ in_cell l a k
 unfolding in_record
 leg_recorded l a k t = cond-true _ _ _ t
@@ -39,11 +37,7 @@ unfolding recorded rise
 legs_recorded [] a k h = refl
 legs_recorded (l ∷ ls) a k h = λ i. leg_recorded l a k (range_in l h.0) i +ℤ legs_recorded ls a k h.1 i
 
--- one that is no leg, or stands elsewhere, adds nothing
-pub elsewhere : (l : Leg) (a k : ℕ) → in_cell l a k ≡ pos 0 → in_record l a k ≡ pos 0
-unfolding in_record
-elsewhere l a k e = ⊎_elim (λ t. cond-true _ _ _ t ∙ e) (λ f. cond-false _ _ _ f) (cases_Bool (in_range l))
-
+-- one that is no leg adds nothing
 pub no_leg : (l : Leg) (a k : ℕ) → in_range l ≡ false → in_record l a k ≡ pos 0
 unfolding in_record
 no_leg l a k f = cond-false _ _ _ f

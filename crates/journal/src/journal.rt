@@ -76,7 +76,10 @@ impl Journal<'_> {
         ensures named { self.new.records.ghost_name ≡ self.old.records.ghost_name }
     {
         let end = self.taken + legs.len();
-        self.records[self.taken..end].copy_from_slice(legs);
+        // without legs nothing says that the records taken are within the list
+        if !legs.is_empty() {
+            self.records[self.taken..end].copy_from_slice(legs);
+        }
         self.taken = end;
     }
 }

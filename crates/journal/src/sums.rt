@@ -15,6 +15,7 @@ fn is_leg_of(leg: Leg, account: u64) -> bool
 }
 
 /// What one record adds to a cell: nothing if it is no leg.
+#[tactic(auto, unfolding(crate::specs::Journal::in_record, ledger::specs::Legs::in_cell, ledger::specs::Legs::in_column))]
 fn in_record(leg: Leg, account: u64, column: u64) -> i64
     ensures value { result ≡ in_record leg account column }
     ensures bound { unsigned_abs result ≤ most_amount }

@@ -30,13 +30,13 @@ unfolding is_entry all_in_range zero_at_each
 empty_entry = refl
 
 -- each test and its fact
-in_range_lem : (l : Leg) → in_range l ≡ true → InRange l
+pub in_range_lem : (l : Leg) → in_range l ≡ true → InRange l
 in_range_lem l e =
     let p = and_parts _ _ e in
     let q = and_parts _ _ p.1 in
     record { account = leb-true _ _ p.0; column = leb-true _ _ q.0; amount = leb-true _ _ q.1 }
 
-range_in : (l : Leg) → InRange l → in_range l ≡ true
+pub range_in : (l : Leg) → InRange l → in_range l ≡ true
 range_in l h = and_from _ _ (le-leb _ _ h.account) (and_from _ _ (le-leb _ _ h.column) (le-leb _ _ h.amount))
 
 all_in_range_lem : (ls : List Leg) → all_in_range ls ≡ true → AllByRecursion InRange ls
