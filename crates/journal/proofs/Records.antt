@@ -3,15 +3,15 @@ use Rattle.std.proofs.Common.{◌≡◌, ℕ, ◌+◌, ◌-◌, ◌<◌, ◌≤�
 use borrow.Author.Differences.{ints}
 use Rattle.std.specs.List.{AllByRecursion}
 use Rattle.std.proofs.lemmas.List.{at_drop_more, at_drop_all, take_all, append-nil, length-take, length-append, length-drop, take-append-le, take-append-drop}
-use Rattle.std.proofs.lemmas.Bool.{cond-true, cond-false, and_cases, ltb-false, cases_Bool, cases_lt}
+use Rattle.std.proofs.lemmas.Bool.{cond-true, cond-false, cases_Bool, cases_lt}
+use Rattle.std.proofs.lemmas.Bool.Decides.{nat_tests}
 use Rattle.ledger.specs.declared.leg.Leg.{Leg}
 use Rattle.ledger.specs.Entries.{InRange, in_range}
-use Rattle.ledger.specs.Legs.{in_cell, rise}
+use Rattle.ledger.specs.Legs.{in_column, in_cell, rise}
 use Rattle.ledger.specs.Limits.{listed, where_listed}
 use Rattle.ledger.specs.Meaning.{entered}
 use Rattle.ledger.proofs.Entries.{range_in}
 use Rattle.ledger.proofs.Meanings.{same_meaning}
-use Rattle.ledger.proofs.Rises.{in_cell_off, in_cell_here, in_column_off, by_equal}
 use Rattle.journal.specs.Journal.{most_records, records_taken, in_record, recorded, journal_over, journal_opened, written}
 
 -- the sum of what is left, one record on
@@ -37,25 +37,15 @@ unfolding recorded rise
 legs_recorded [] a k h = refl
 legs_recorded (l ∷ ls) a k h = λ i. leg_recorded l a k (range_in l h.0) i +ℤ legs_recorded ls a k h.1 i
 
--- one that is no leg adds nothing
-pub no_leg : (l : Leg) (a k : ℕ) → in_range l ≡ false → in_record l a k ≡ pos 0
-unfolding in_record
-no_leg l a k f = cond-false _ _ _ f
-
 recorded-append : (rs ls : List Leg) (a k : ℕ) → recorded (rs ++ ls) a k ≡ recorded rs a k +ℤ recorded ls a k
 unfolding recorded
 recorded-append [] ls a k = omega (arith, ints)
 recorded-append (r ∷ rs) ls a k = let h : recorded (rs ++ ls) a k ≡ recorded rs a k +ℤ recorded ls a k = recorded-append rs ls a k in omega (arith, ints)
 
 -- outside the accounts and columns legs add nothing
-pub leg_outside : (l : Leg) (a k : ℕ) → InRange l → listed a k ≡ false → in_cell l a k ≡ pos 0
-leg_outside l a k h o =
-    ⊎_elim
-    (λ p. in_cell_off l a k (let q : 128 ≤ a = ltb-false _ _ p in omega (arith, h.account)))
-    (λ p.
-    let q : 34 ≤ k = ltb-false _ _ p in
-    by_equal l.account a (λ e. in_cell_here l a k e ∙ in_column_off l k (omega (arith, h.column))) (λ e. in_cell_off l a k e))
-    (and_cases _ _ o)
+leg_outside : (l : Leg) (a k : ℕ) → InRange l → listed a k ≡ false → in_cell l a k ≡ pos 0
+unfolding in_cell in_column
+leg_outside l a k h o = let r = h.account in let s = h.column in grind (arith, nat_tests)
 
 legs_outside : (ls : List Leg) (a k : ℕ) → AllByRecursion InRange ls → listed a k ≡ false → rise ls a k ≡ pos 0
 unfolding rise
@@ -68,16 +58,10 @@ legs_outside (l ∷ ls) a k h o =
 -- the cells once legs are written behind the records
 cells_after_lem : (rs ls : List Leg) (a k : ℕ) → AllByRecursion InRange ls → where_listed (recorded (rs ++ ls)) a k ≡ where_listed (recorded rs) a k +ℤ rise ls a k
 cells_after_lem rs ls a k h =
-    ⊎_elim
-    (λ t.
-    let x : where_listed (recorded (rs ++ ls)) a k ≡ recorded (rs ++ ls) a k = cond-true _ _ _ t in
-    let y : where_listed (recorded rs) a k ≡ recorded rs a k = cond-true _ _ _ t in
-    omega (arith, ints, recorded-append rs ls a k, legs_recorded ls a k h))
-    (λ f.
-    let x : where_listed (recorded (rs ++ ls)) a k ≡ pos 0 = cond-false _ _ _ f in
-    let y : where_listed (recorded rs) a k ≡ pos 0 = cond-false _ _ _ f in
-    omega (arith, ints, legs_outside ls a k h f))
-    (cases_Bool (listed a k))
+    let x : recorded (rs ++ ls) a k ≡ recorded rs a k +ℤ recorded ls a k = recorded-append rs ls a k in
+    let y : recorded ls a k ≡ rise ls a k = legs_recorded ls a k h in
+    let z : listed a k ≡ false → rise ls a k ≡ pos 0 = legs_outside ls a k h in
+    grind (arith, ints)
 
 -- the records taken, as the front of a list
 pub front : (rs : List Leg) (n k : ℕ) → k ≡ min (min n most_records) (length rs) → take (k - 0) rs ≡ records_taken rs n

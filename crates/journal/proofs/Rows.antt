@@ -13,7 +13,7 @@ use Rattle.ledger.specs.Limits.{columns, listed, where_listed}
 use Rattle.ledger.proofs.Entries.{in_range_lem}
 use Rattle.ledger.proofs.Rises.{by_equal, in_column_here, in_column_off}
 use Rattle.journal.specs.Journal.{in_record, recorded}
-use Rattle.journal.proofs.Records.{left_more, left_all, leg_recorded, leg_outside, no_leg}
+use Rattle.journal.proofs.Records.{left_more, left_all}
 use Rattle.journal.proofs.Reach.{record_bound}
 
 -- of an account's row, once the first i records are added: with those left each cell is the whole sum, and none is large
@@ -82,11 +82,8 @@ row_none rs a = record {
 
 -- outside the accounts and columns records add nothing
 record_outside : (l : Leg) (a k : ℕ) → listed a k ≡ false → in_record l a k ≡ pos 0
-record_outside l a k o =
-    ⊎_elim
-    (λ (t : in_range l ≡ true). leg_recorded l a k t ∙ leg_outside l a k (in_range_lem l t) o)
-    (λ (f : in_range l ≡ false). no_leg l a k f)
-    (cases_Bool (in_range l))
+unfolding in_record in_cell in_column
+record_outside l a k o = grind (arith, nat_tests)
 
 recorded_outside : (rs : List Leg) (a k : ℕ) → listed a k ≡ false → recorded rs a k ≡ pos 0
 unfolding recorded

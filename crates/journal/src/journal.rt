@@ -19,6 +19,7 @@ pub const MOST_RECORDS: usize = 65_536;
 const SAFE_RECORDS: usize = 10_000;
 
 /// A list lent for records, and how many of them are taken, from the first on.
+// the list is lent by the caller, of any length, so no fact ties the number to it
 #[derive(Drop)]
 pub struct Journal<'a> {
     records: &'a mut [Leg],

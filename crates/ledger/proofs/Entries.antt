@@ -2,10 +2,11 @@
 use Rattle.std.proofs.Common.{◌≡◌, ℕ, ◌+◌, ◌<◌, ◌≤◌, true, ◌&&◌, ◌≢◌, List, [], ◌∷◌, length, get_or, drop, ℤ, pos, negsuc, Decides, refl, ap, subst, arith}
 use Rattle.std.specs.List.{AllByRecursion}
 use Rattle.std.proofs.lemmas.List.{at_drop_more, at_drop_all}
-use Rattle.std.proofs.lemmas.Bool.{and_parts, and_from, leb-true, le-leb, eqb-true}
+use Rattle.std.proofs.lemmas.Bool.{and_parts, and_from, leb-true, le-leb, lt-ltb, eqb-true}
 use Rattle.ledger.specs.declared.leg.Leg.{Leg}
 use Rattle.ledger.specs.Legs.{column_sum}
 use Rattle.ledger.specs.Entries.{InRange, EntryLegs, in_range, all_in_range, is_zero, zero_at_each, is_entry}
+use Rattle.ledger.specs.Limits.{accounts, columns, listed}
 use Rattle.ledger.proofs.Rises.{by_equal, column_off}
 
 -- one leg on
@@ -38,6 +39,9 @@ in_range_lem l e =
 
 pub range_in : (l : Leg) → InRange l → in_range l ≡ true
 range_in l h = and_from _ _ (le-leb _ _ h.account) (and_from _ _ (le-leb _ _ h.column) (le-leb _ _ h.amount))
+
+pub leg_listed : (l : Leg) → InRange l → listed l.account l.column ≡ true
+leg_listed l h = and_from _ _ (lt-ltb l.account accounts (omega (arith, h.account))) (lt-ltb l.column columns (omega (arith, h.column)))
 
 all_in_range_lem : (ls : List Leg) → all_in_range ls ≡ true → AllByRecursion InRange ls
 unfolding all_in_range

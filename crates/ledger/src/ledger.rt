@@ -38,6 +38,7 @@ pub trait Balances {
         array::from_fn(|column| self.cell(account, column as u64))
     }
 
+    // no body in the trait for the limits: another ledger may have its own
     /// The least that the cell may hold; 0 outside the accounts and columns.
     fn floor(&self, account: u64, column: u64) -> i64
         ensures value { result ≡ (meaning self.now).floor account column }

@@ -3,16 +3,14 @@ use Rattle.std.proofs.Common.{◌≡◌, ℕ, ◌<◌, ◌≤◌, true, false, l
 use lib.IntN.{+ℤ_idr, +ℤ_assoc}
 use Rattle.std.specs.List.{AllByRecursion}
 use Rattle.std.proofs.lemmas.List.{length-set, get_or-set_same, get_or-set_other}
-use Rattle.std.proofs.lemmas.Bool.{cond-true, cond-false, cases_Bool, le-leb, and_parts, and_from, ltb-true, lt-ltb}
+use Rattle.std.proofs.lemmas.Bool.{cond-true, cond-false, cases_Bool, le-leb, and_parts, ltb-true}
 use Rattle.ledger.specs.declared.leg.Leg.{Leg}
 use Rattle.ledger.specs.Entries.{InRange}
 use Rattle.ledger.specs.Legs.{in_cell, rise}
 use Rattle.ledger.specs.Limits.{accounts, columns, listed}
+use Rattle.ledger.proofs.Entries.{leg_listed}
 use Rattle.ledger.proofs.Rises.{by_equal, in_cell_here, in_cell_off, in_column_here, in_column_off, rise_none, rise_first}
 use Rattle.sheet.specs.Cells.{sheet_cells, place_of, sheet_cell, added, posted}
-
-pub leg_listed : (l : Leg) → InRange l → listed l.account l.column ≡ true
-leg_listed l r = and_from _ _ (lt-ltb l.account accounts (omega (arith, r.account))) (lt-ltb l.column columns (omega (arith, r.column)))
 
 -- the cell as the list has it
 pub cell_read : (xs : List ℤ) (a k : ℕ) → sheet_cells ≤ length xs → listed a k ≡ true → sheet_cell xs a k ≡ get_or xs (place_of a k) (pos 0)

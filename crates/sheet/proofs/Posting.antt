@@ -11,11 +11,12 @@ use Rattle.ledger.specs.Entries.{InRange, EntryLegs}
 use Rattle.ledger.specs.Legs.{leg}
 use Rattle.ledger.specs.Limits.{listed, most_held, floor_of, ceiling_of}
 use Rattle.ledger.specs.Meaning.{entered, fits, verdict, after}
+use Rattle.ledger.proofs.Entries.{leg_listed}
 use Rattle.ledger.proofs.Meanings.{same_meaning, entered_none, entered_more, after_taken}
 use Rattle.ledger.proofs.Rises.{in_own_cell, rise_one}
 use Rattle.ledger.proofs.Walk.{left, left_step, verdict_taken}
 use Rattle.sheet.specs.Cells.{sheet_cells, long, place_of, sheet_cell, sheet_over, added, posted, settled_cells, cells_after}
-use Rattle.sheet.proofs.Cells.{leg_listed, cell_read, cell_posted, posted_length, place_in}
+use Rattle.sheet.proofs.Cells.{cell_read, cell_posted, posted_length, place_in}
 
 -- only a list that is long enough has room
 room_long : (xs : List ℤ) (room n : ℕ) → n < cond (long xs) room 0 → sheet_cells ≤ length xs
