@@ -1,9 +1,9 @@
 -- Few records cannot bring a cell to its limits. Assumes nothing.
-use Rattle.std.proofs.Common.{◌≡◌, ℕ, ◌+◌, ◌*◌, ◌≤◌, min, true, cond, ltb, List, [], ◌∷◌, length, pos, neg_ℤ, nat_abs, Ok, Err, sym, refl, ap, ◌∙◌, ⊎_elim, arith}
+use Rattle.std.proofs.Common.{◌≡◌, ℕ, ◌+◌, ◌*◌, ◌≤◌, min, true, cond, ltb, List, [], ◌∷◌, length, pos, neg_ℤ, nat_abs, Ok, Err, sym, refl, ap, ◌∙◌, arith}
 use borrow.Author.Differences.{ints, true_is_le}
 use Rattle.std.specs.List.{AllByRecursion}
 use Rattle.std.proofs.lemmas.List.{length-take}
-use Rattle.std.proofs.lemmas.Bool.{cond-true, cond-false, and_from, cases_Bool}
+use Rattle.std.proofs.lemmas.Bool.{cond-true, and_from}
 use Rattle.std.proofs.lemmas.Bool.Decides.{nat_tests}
 use Rattle.money.specs.Conversions.{most_amount}
 use Rattle.register.specs.Register.{by_ledger}
@@ -33,12 +33,9 @@ recorded_bound (r ∷ rs) a k = omega (arith, ints, record_bound r a k, recorded
 
 cell_bound : (rs : List Leg) (n : ℕ) (a k : ℕ) → nat_abs (where_listed (recorded (records_taken rs n)) a k) ≤ n * most_amount
 cell_bound rs n a k =
-    ⊎_elim
-    (λ t.
-    let x : where_listed (recorded (records_taken rs n)) a k ≡ recorded (records_taken rs n) a k = cond-true _ _ _ t in
-    omega (arith, ints, recorded_bound (records_taken rs n) a k, length-take (min n most_records) rs))
-    (λ f. let x : where_listed (recorded (records_taken rs n)) a k ≡ pos 0 = cond-false _ _ _ f in omega (arith, ints))
-    (cases_Bool (listed a k))
+    let x : nat_abs (recorded (records_taken rs n) a k) ≤ length (records_taken rs n) * most_amount = recorded_bound (records_taken rs n) a k in
+    let y : length (records_taken rs n) ≤ n = omega (arith, length-take (min n most_records) rs) in
+    grind (arith, ints)
 
 -- A ledger with the limits of a journal, whose cells are at most b from zero.
 record Near (m : Meaning) (b : ℕ) : Type 0 where

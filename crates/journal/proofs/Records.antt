@@ -3,7 +3,7 @@ use Rattle.std.proofs.Common.{◌≡◌, ℕ, ◌+◌, ◌-◌, ◌<◌, ◌≤�
 use borrow.Author.Differences.{ints}
 use Rattle.std.specs.List.{AllByRecursion}
 use Rattle.std.proofs.lemmas.List.{at_drop_more, at_drop_all, take_all, append-nil, length-take, length-append, length-drop, take-append-le, take-append-drop}
-use Rattle.std.proofs.lemmas.Bool.{cond-true, cond-false, cases_Bool, cases_lt}
+use Rattle.std.proofs.lemmas.Bool.{cond-true, cases_lt}
 use Rattle.std.proofs.lemmas.Bool.Decides.{nat_tests}
 use Rattle.ledger.specs.declared.leg.Leg.{Leg}
 use Rattle.ledger.specs.Entries.{InRange, in_range}
@@ -79,7 +79,7 @@ pub opened : (rs : List Leg) → journal_over rs 0 ≡ journal_opened rs
 opened rs =
     same_meaning (journal_over rs 0) (journal_opened rs)
     (omega arith)
-    (λ a k. ⊎_elim (λ t. cond-true _ _ _ t ∙ none_recorded a k) (λ f. cond-false _ _ _ f) (cases_Bool (listed a k)))
+    (λ a k. let none : recorded [] a k ≡ pos 0 = none_recorded a k in grind (arith))
     (λ a k. refl)
     (λ a k. refl)
 

@@ -1,9 +1,8 @@
 -- What the records add to the cells of an account, one record on. Assumes nothing.
-use Rattle.std.proofs.Common.{◌≡◌, ℕ, ◌+◌, ◌*◌, ◌<◌, ◌≤◌, Bool, true, false, ◌&&◌, eqb, ◌≢◌, List, [], ◌∷◌, length, get_or, drop, set, replicate, ℤ, pos, ◌+ℤ◌, nat_abs, sym, refl, ap, ◌∙◌, ⊎_elim, arith, length-set, get_or-set_other, get_or-set_same}
-use lib.IntN.{+ℤ_idr}
+use Rattle.std.proofs.Common.{◌≡◌, ℕ, ◌+◌, ◌*◌, ◌<◌, ◌≤◌, Bool, true, false, ◌&&◌, eqb, ◌≢◌, List, [], ◌∷◌, length, get_or, drop, set, replicate, ℤ, pos, ◌+ℤ◌, nat_abs, refl, ◌∙◌, arith, length-set, get_or-set_other, get_or-set_same}
 use Rattle.std.proofs.lemmas.List.{length-replicate, get_or-replicate}
 use Rattle.std.proofs.lemmas.Int.{ints}
-use Rattle.std.proofs.lemmas.Bool.{and_parts, cond-true, cond-false, cases_Bool}
+use Rattle.std.proofs.lemmas.Bool.{and_parts}
 use Rattle.std.proofs.lemmas.Bool.Decides.{nat_tests}
 use Rattle.money.specs.Conversions.{most_amount}
 use Rattle.ledger.specs.declared.leg.Leg.{Leg}
@@ -11,7 +10,6 @@ use Rattle.ledger.specs.Entries.{InRange, in_range}
 use Rattle.ledger.specs.Legs.{in_column, in_cell}
 use Rattle.ledger.specs.Limits.{columns, listed, where_listed}
 use Rattle.ledger.proofs.Entries.{in_range_lem}
-use Rattle.ledger.proofs.Rises.{by_equal, in_column_here, in_column_off}
 use Rattle.journal.specs.Journal.{in_record, recorded}
 use Rattle.journal.proofs.Records.{left_more, left_all}
 use Rattle.journal.proofs.Reach.{record_bound}
@@ -54,14 +52,12 @@ module _ (rs : List Leg) (a i : ℕ) (d : Leg) (row : List ℤ) (h : i < length 
     within = omega (arith, so_far.count, (range_of l a is).column)
 
     cell_more : (k : ℕ) → get_or (set row l.column z) k (pos 0) ≡ get_or row k (pos 0) +ℤ in_record l a k
+    unfolding in_column
     cell_more k =
-        by_equal l.column k
-        (λ (e : l.column ≡ k).
-        ap (λ (j : ℕ). get_or (set row l.column z) j (pos 0)) (sym e) ∙ get_or-set_same row l.column z (pos 0) within ∙ sum
-        ∙ (λ t. get_or row (e t) (pos 0) +ℤ sym (adds l a k is ∙ in_column_here l k e) t))
-        (λ (ne : l.column ≢ k).
-        get_or-set_other row l.column k z (pos 0) (λ (e : k ≡ l.column). ne (sym e)) ∙ sym (+ℤ_idr _)
-        ∙ ap (λ (y : ℤ). get_or row k (pos 0) +ℤ y) (sym (adds l a k is ∙ in_column_off l k ne)))
+        let own : in_record l a k ≡ in_column l k = adds l a k is in
+        let same : get_or (set row l.column z) l.column (pos 0) ≡ z = get_or-set_same row l.column z (pos 0) within in
+        let other : k ≢ l.column → get_or (set row l.column z) k (pos 0) ≡ get_or row k (pos 0) = get_or-set_other row l.column k z (pos 0) in
+        grind (arith, ints, nat_tests)
 
     pub row_more : Row rs a (i + 1) (set row l.column z)
     row_more = record {
@@ -91,8 +87,4 @@ recorded_outside [] a k o = refl
 recorded_outside (l ∷ rs) a k o = omega (arith, ints, record_outside l a k o, recorded_outside rs a k o)
 
 pub listed_recorded : (rs : List Leg) (a k : ℕ) → recorded rs a k ≡ where_listed (recorded rs) a k
-listed_recorded rs a k =
-    ⊎_elim
-    (λ (t : listed a k ≡ true). sym (cond-true _ _ _ t))
-    (λ (f : listed a k ≡ false). recorded_outside rs a k f ∙ sym (cond-false _ _ _ f))
-    (cases_Bool (listed a k))
+listed_recorded rs a k = let none : listed a k ≡ false → recorded rs a k ≡ pos 0 = recorded_outside rs a k in grind (arith, nat_tests)

@@ -1,15 +1,17 @@
 -- A leg is added to its own cell and to no other. Assumes nothing.
-use Rattle.std.proofs.Common.{◌≡◌, ℕ, ◌<◌, ◌≤◌, true, false, ltb, ◌≢◌, List, [], ◌∷◌, length, get_or, ℤ, pos, ◌+ℤ◌, sym, refl, ap, ◌∙◌, subst, ⊎_elim, arith}
+use Rattle.std.proofs.Common.{◌≡◌, ℕ, ◌<◌, ◌≤◌, true, false, ltb, ◌≢◌, List, [], ◌∷◌, length, get_or, set, ℤ, pos, ◌+ℤ◌, sym, refl, ap, ◌∙◌, arith}
 use lib.IntN.{+ℤ_idr, +ℤ_assoc}
 use Rattle.std.specs.List.{AllByRecursion}
+use Rattle.std.proofs.lemmas.Int.{ints}
 use Rattle.std.proofs.lemmas.List.{length-set, get_or-set_same, get_or-set_other}
-use Rattle.std.proofs.lemmas.Bool.{cond-true, cond-false, cases_Bool, le-leb, and_parts, ltb-true}
+use Rattle.std.proofs.lemmas.Bool.{cond-true, cond-false, le-leb, and_parts, ltb-true}
+use Rattle.std.proofs.lemmas.Bool.Decides.{nat_tests}
 use Rattle.ledger.specs.declared.leg.Leg.{Leg}
 use Rattle.ledger.specs.Entries.{InRange}
-use Rattle.ledger.specs.Legs.{in_cell, rise}
+use Rattle.ledger.specs.Legs.{in_column, in_cell, rise}
 use Rattle.ledger.specs.Limits.{accounts, columns, listed}
 use Rattle.ledger.proofs.Entries.{leg_listed}
-use Rattle.ledger.proofs.Rises.{by_equal, in_cell_here, in_cell_off, in_column_here, in_column_off, rise_none, rise_first}
+use Rattle.ledger.proofs.Rises.{rise_none, rise_first}
 use Rattle.sheet.specs.Cells.{sheet_cells, place_of, sheet_cell, added, posted}
 
 -- the cell as the list has it
@@ -36,30 +38,17 @@ module _ (xs : List ℤ) (l : Leg) (range : InRange l) (enough : sheet_cells ≤
   still_long : sheet_cells ≤ length (added xs l)
   still_long = omega (arith, enough, length-set xs (place_of l.account l.column) (get_or xs (place_of l.account l.column) (pos 0) +ℤ l.amount))
 
-  own : sheet_cell (added xs l) l.account l.column ≡ sheet_cell xs l.account l.column +ℤ in_cell l l.account l.column
-  own =
-      cell_read (added xs l) l.account l.column still_long here
-      ∙ get_or-set_same xs (place_of l.account l.column) _ (pos 0) place_in
-      ∙ (λ i. sym (cell_read xs l.account l.column enough here) i +ℤ sym (in_cell_here l _ _ refl ∙ in_column_here l _ refl) i)
-
-  -- a cell in which the leg is not
-  other : (a k : ℕ) → in_cell l a k ≡ pos 0 → (listed a k ≡ true → place_of a k ≢ place_of l.account l.column) → sheet_cell (added xs l) a k ≡ sheet_cell xs a k +ℤ in_cell l a k
-  other a k z apart =
-      ⊎_elim
-      (λ t. cell_read (added xs l) a k still_long t ∙ get_or-set_other xs (place_of l.account l.column) (place_of a k) _ (pos 0) (apart t) ∙ sym (cell_read xs a k enough t))
-      (λ f. cell_outside (added xs l) a k f ∙ sym (cell_outside xs a k f))
-      (cases_Bool (listed a k))
-      ∙ sym (+ℤ_idr (sheet_cell xs a k)) ∙ ap (λ y. sheet_cell xs a k +ℤ y) (sym z)
-
   pub cell_added : (a k : ℕ) → sheet_cell (added xs l) a k ≡ sheet_cell xs a k +ℤ in_cell l a k
+  unfolding in_cell in_column
   cell_added a k =
-      by_equal l.account a
-      (λ p. by_equal l.column k
-      (λ q.
-      subst (λ b. sheet_cell (added xs l) b k ≡ sheet_cell xs b k +ℤ in_cell l b k) p
-      (subst (λ j. sheet_cell (added xs l) l.account j ≡ sheet_cell xs l.account j +ℤ in_cell l l.account j) q own))
-      (λ d. other a k (in_cell_here l a k p ∙ in_column_off l k d) (λ t e. d (sym (place_apart a k _ _ t here e).1))))
-      (λ d. other a k (in_cell_off l a k d) (λ t e. d (sym (place_apart a k _ _ t here e).0)))
+      let p : ℕ = place_of l.account l.column in
+      let v : ℤ = get_or xs p (pos 0) +ℤ l.amount in
+      let same : get_or (set xs p v) p (pos 0) ≡ v = get_or-set_same xs p v (pos 0) place_in in
+      let other : place_of a k ≢ p → get_or (set xs p v) (place_of a k) (pos 0) ≡ get_or xs (place_of a k) (pos 0) = get_or-set_other xs p (place_of a k) v (pos 0) in
+      let still : length (set xs p v) ≡ length xs = length-set xs p v in
+      let r = range.account in
+      let s = range.column in
+      grind (arith, ints, nat_tests)
 
 pub posted_length : (xs : List ℤ) (ls : List Leg) → length (posted xs ls) ≡ length xs
 posted_length xs [] = refl

@@ -1,7 +1,7 @@
 -- A list whose first cells are cleared, and the sheet over it. Assumes nothing.
 use Rattle.std.proofs.Common.{◌≡◌, ℕ, ◌<◌, ◌≤◌, min, Bool, true, cond, List, ◌++◌, length, get_or, take, drop, replicate, ℤ, pos, sym, refl, ap, ◌∙◌, arith}
 use Rattle.std.proofs.lemmas.List.{length-take, length-append, length-replicate, get_or_append_left, get_or-replicate}
-use Rattle.std.proofs.lemmas.Bool.{cond-true, cond_both, le-leb, leb-true, and_parts, ltb-true}
+use Rattle.std.proofs.lemmas.Bool.{cond-true, le-leb, leb-true, and_parts, ltb-true}
 use Rattle.ledger.specs.Limits.{listed, accounts, columns}
 use Rattle.ledger.proofs.Meanings.{same_meaning}
 use Rattle.sheet.specs.Cells.{sheet_cells, long, place_of, sheet_cell, sheet_over, sheet_opened, cleared, most_room}
@@ -20,12 +20,10 @@ place_bound a k h = omega (arith, ltb-true a accounts (and_parts _ _ h).0, ltb-t
 -- every cell of a list that begins with so many zeros is 0
 zero_cells : (xs : List ℤ) (b : Bool) (a k : ℕ) → cond (listed a k) (cond b (get_or (replicate sheet_cells (pos 0) ++ xs) (place_of a k) (pos 0)) (pos 0)) (pos 0) ≡ pos 0
 zero_cells xs b a k =
-    cond_both (listed a k) _ (pos 0) (λ z. z ≡ pos 0)
-    (λ h. cond_both b _ (pos 0) (λ z. z ≡ pos 0)
-    (λ _. get_or_append_left (replicate sheet_cells (pos 0)) xs (pos 0) (place_of a k) (omega (arith, place_bound a k h, length-replicate sheet_cells (pos 0)))
-    ∙ get_or-replicate sheet_cells (place_of a k) (pos 0) (pos 0) (place_bound a k h))
-    (λ _. refl))
-    (λ _. refl)
+    let first : listed a k ≡ true → get_or (replicate sheet_cells (pos 0) ++ xs) (place_of a k) (pos 0) ≡ pos 0 = λ h.
+    get_or_append_left (replicate sheet_cells (pos 0)) xs (pos 0) (place_of a k) (omega (arith, place_bound a k h, length-replicate sheet_cells (pos 0)))
+    ∙ get_or-replicate sheet_cells (place_of a k) (pos 0) (pos 0) (place_bound a k h) in
+    grind (arith)
 
 pub opened_meaning : (xs ys : List ℤ) (room asked : ℕ) → long xs ≡ true → ys ≡ cleared xs → room ≡ min most_room asked → sheet_over ys room ≡ sheet_opened xs asked
 opened_meaning xs ys room asked h e r =
