@@ -1,9 +1,10 @@
 -- What the records of a journal add up to, and what writing legs changes. Assumes nothing.
-use Rattle.std.proofs.Common.{◌≡◌, ℕ, ◌+◌, ◌-◌, ◌<◌, ◌≤◌, min, true, false, List, [], ◌∷◌, ◌++◌, length, get_or, take, drop, pos, ◌+ℤ◌, sym, refl, ap, ◌∙◌, ⊎_elim, append_assoc, add-zero, arith}
+use Rattle.std.proofs.Common.{◌≡◌, ℕ, ◌+◌, ◌-◌, ◌<◌, ◌≤◌, min, true, false, List, [], ◌∷◌, ◌++◌, length, get_or, drop, pos, ◌+ℤ◌, refl, ap, ◌∙◌, arith}
 use borrow.Author.Differences.{ints}
 use Rattle.std.specs.List.{AllByRecursion}
-use Rattle.std.proofs.lemmas.List.{at_drop_more, at_drop_all, take_all, append-nil, length-take, length-append, length-drop, take-append-le, take-append-drop}
-use Rattle.std.proofs.lemmas.Bool.{cond-true, cases_lt}
+use Rattle.std.proofs.lemmas.List.{at_drop_more, at_drop_all, length-take, length-append, length-drop}
+use Rattle.std.proofs.lemmas.Bool.{cond-true}
+use Rattle.std.proofs.lemmas.Grind.{common_steps}
 use Rattle.std.proofs.lemmas.Bool.Decides.{nat_tests}
 use Rattle.ledger.specs.declared.leg.Leg.{Leg}
 use Rattle.ledger.specs.Entries.{InRange, in_range}
@@ -63,14 +64,6 @@ cells_after_lem rs ls a k h =
     let z : listed a k ≡ false → rise ls a k ≡ pos 0 = legs_outside ls a k h in
     grind (arith, ints)
 
--- the records taken, as the front of a list
-pub front : (rs : List Leg) (n k : ℕ) → k ≡ min (min n most_records) (length rs) → take (k - 0) rs ≡ records_taken rs n
-front rs n k e =
-    ⊎_elim
-    (λ h. let j : k - 0 ≡ min n most_records = omega arith in ap (λ j. take j rs) j)
-    (λ h. take_all (k - 0) rs (omega arith) ∙ sym (take_all (min n most_records) rs h))
-    (cases_lt (min n most_records) (length rs))
-
 pub taken_few : (rs : List Leg) (n : ℕ) → length (records_taken rs n) ≤ most_records
 taken_few rs n = omega (arith, length-take (min n most_records) rs)
 
@@ -85,19 +78,7 @@ opened rs =
 
 -- the records taken once the legs are written
 pub taken_written : (rs ls : List Leg) (n : ℕ) → length ls ≤ min (length rs) most_records - n → records_taken (written rs n ls) (n + length ls) ≡ records_taken rs n ++ ls
-taken_written rs [] n room =
-    ap (λ xs. records_taken xs (n + 0)) (ap (λ j. take n rs ++ drop j rs) (add-zero n) ∙ take-append-drop n rs)
-    ∙ ap (records_taken rs) (add-zero n)
-    ∙ sym (append-nil _)
-taken_written rs (l ∷ ls) n room =
-    let few : n + length (l ∷ ls) ≤ min (length rs) most_records = omega arith in
-    let long : length (take n rs ++ (l ∷ ls)) ≡ n + length (l ∷ ls) = simp (length-append, length-take) (omega arith) in
-    let all : min (n + length (l ∷ ls)) most_records ≡ n + length (l ∷ ls) = omega arith in
-    ap (λ j. take j (written rs n (l ∷ ls))) all
-    ∙ ap (take (n + length (l ∷ ls))) (sym (append_assoc (take n rs) (l ∷ ls) (drop (n + length (l ∷ ls)) rs)))
-    ∙ take-append-le (n + length (l ∷ ls)) (take n rs ++ (l ∷ ls)) (drop (n + length (l ∷ ls)) rs) (omega arith)
-    ∙ take_all (n + length (l ∷ ls)) (take n rs ++ (l ∷ ls)) (omega arith)
-    ∙ ap (λ j. take j rs ++ (l ∷ ls)) (omega arith)
+taken_written rs ls n room = grind (arith, common_steps)
 
 length-written : (rs ls : List Leg) (n : ℕ) → length ls ≤ min (length rs) most_records - n → length (written rs n ls) ≡ length rs
 length-written rs ls n room = simp (length-append, length-take, length-drop) (omega arith)
