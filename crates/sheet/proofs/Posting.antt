@@ -10,12 +10,12 @@ use Rattle.ledger.specs.declared.leg.Leg.{Leg}
 use Rattle.ledger.specs.Entries.{InRange, EntryLegs}
 use Rattle.ledger.specs.Legs.{leg}
 use Rattle.ledger.specs.Limits.{listed, most_held}
-use Rattle.ledger.specs.Meaning.{entered, fits, verdict, after}
+use Rattle.ledger.specs.Meaning.{entered, fits, verdict, after, settled}
 use Rattle.ledger.proofs.Entries.{leg_listed}
 use Rattle.ledger.proofs.Meanings.{same_meaning, entered_none, entered_more, after_taken}
 use Rattle.ledger.proofs.Rises.{in_own_cell, rise_one}
 use Rattle.ledger.proofs.Walk.{left, left_step, verdict_taken}
-use Rattle.sheet.specs.Cells.{sheet_cells, long, place_of, sheet_cell, sheet_over, added, posted, settled_cells, cells_after}
+use Rattle.sheet.specs.Cells.{sheet_cells, long, place_of, sheet_cell, sheet_over, added, posted, cells_after}
 use Rattle.sheet.proofs.Cells.{cell_read, cell_posted, posted_length, place_in}
 
 -- only a list that is long enough has room
@@ -108,4 +108,4 @@ pub taken_meaning : (xs ys : List ℤ) (room r : ℕ) (ls : List Leg) → verdic
 taken_meaning xs ys room r ls t h e f = (λ i. sheet_over (e i) (f i)) ∙ posted_meaning xs room ls t h ∙ sym (after_taken (sheet_over xs room) ls t)
 
 pub taken_cells : (xs ys : List ℤ) (room : ℕ) (ls : List Leg) → verdict (sheet_over xs room) ls ≡ Ok tt → ys ≡ posted xs ls → ys ≡ cells_after xs room ls
-taken_cells xs ys room ls t e = e ∙ sym (ap (λ r. settled_cells r (posted xs ls) xs) t)
+taken_cells xs ys room ls t e = e ∙ sym (ap (λ r. settled r (posted xs ls) xs) t)
