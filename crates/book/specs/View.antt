@@ -14,7 +14,7 @@ use Rattle.book.specs.declared.slip.Slip.{Slip}
 abbrev pub state_of : {L : Type 0} → Balances L → Book L → State
 state_of l b = record {
   ledger = l.meaning b.ledger;
-  kind = l.KIND;
+  kind = l.letter;
   fit = b.fit;
   mark = b.mark;
   given = b.given;

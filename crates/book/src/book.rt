@@ -60,7 +60,7 @@ impl<L: Ledger> Book<L> {
     /// Opens a book on a ledger. It is fit if the cells of the exchange account and the docket account are all
     /// zero; an unfit book answers questions, parks, and refuses every other call.
     pub fn open(ledger: L, mark: u32) -> Book<L>
-        ensures state { state_of L.Balances result ≡ opened (L.Balances.meaning ledger) L.Balances.KIND mark }
+        ensures state { state_of L.Balances result ≡ opened (L.Balances.meaning ledger) L.Balances.letter mark }
         ensures law { ConservedFrom (state_of L.Balances result) }
     {
         let fit = is_clear(&ledger);
@@ -116,7 +116,7 @@ impl<L: Ledger> Book<L> {
         ensures value { result ≡ asked (state_of L.Balances self.now) kind }
         ensures law { StillConserved (state_of L.Balances self.now) (ask kind) (Ok result) (state_of L.Balances self.now) }
     {
-        L::KIND
+        self.ledger.kind_letter()
     }
 
     /// Whether the book was fit when it was opened.

@@ -75,7 +75,7 @@ fn fill<L: Ledger>(ledger: &mut L) -> u32 {
 
 /// Takes a conversion, fills two cells up to their limits, and is refused one leg more.
 fn show_ledger<L: Ledger>(rt: &HostRuntime, ledger: &mut L) -> io::Result<()> {
-    println!(rt; "  ledger {}, room {}", L::KIND, ledger.room())?;
+    println!(rt; "  ledger {}, room {}", ledger.kind_letter(), ledger.room())?;
     show_taking(rt, ledger, &conversion())?;
     let taken = fill(ledger);
     println!(rt; "    {taken} entries of the largest amounts")?;

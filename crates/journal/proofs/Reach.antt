@@ -1,38 +1,29 @@
 -- Few records cannot bring a cell to its limits. Assumes nothing.
-use Rattle.std.proofs.Common.{◌≡◌, ℕ, ◌+◌, ◌*◌, ◌≤◌, min, true, List, [], ◌∷◌, length, pos, neg_ℤ, nat_abs, Ok, sym, refl, ap, ◌∙◌, ⊎_elim, arith}
+use Rattle.std.proofs.Common.{◌≡◌, ℕ, ◌+◌, ◌*◌, ◌≤◌, min, true, cond, ltb, List, [], ◌∷◌, length, pos, neg_ℤ, nat_abs, Ok, Err, sym, refl, ap, ◌∙◌, arith}
 use borrow.Author.Differences.{ints, true_is_le}
 use Rattle.std.specs.List.{AllByRecursion}
 use Rattle.std.proofs.lemmas.List.{length-take}
-use Rattle.std.proofs.lemmas.Bool.{cond-true, cond-false, and_from, lt-ltb, cases_Bool, le-ltb}
+use Rattle.std.proofs.lemmas.Bool.{cond-true, and_from}
 use Rattle.std.proofs.lemmas.Bool.Decides.{nat_tests}
 use Rattle.money.specs.Conversions.{most_amount}
+use Rattle.register.specs.Register.{by_ledger}
 use Rattle.ledger.specs.declared.leg.Leg.{Leg}
-use Rattle.ledger.specs.Entries.{InRange, in_range}
-use Rattle.ledger.specs.Legs.{in_cell}
-use Rattle.ledger.specs.Limits.{accounts, columns, listed, where_listed, most_held, floor_of, ceiling_of}
-use Rattle.ledger.specs.Meaning.{Meaning, entered, fits, stops, verdict}
-use Rattle.ledger.proofs.Rises.{rise_one, in_cell_here, in_cell_off, in_column_here, in_column_off, by_equal}
+use Rattle.ledger.specs.Entries.{InRange}
+use Rattle.ledger.specs.Legs.{in_column, in_cell}
+use Rattle.ledger.specs.Limits.{listed, where_listed, most_held, floor_of, ceiling_of}
+use Rattle.ledger.specs.Meaning.{Meaning, entered, fits, stops, roomy, verdict}
+use Rattle.ledger.proofs.Entries.{leg_listed}
+use Rattle.ledger.proofs.Rises.{rise_one}
 use Rattle.journal.specs.Journal.{most_records, records_taken, in_record, recorded, journal_over}
 
 -- a leg moves a cell by its amount at most
 leg_bound : (l : Leg) (a k : ℕ) → nat_abs (in_cell l a k) ≤ nat_abs l.amount
-leg_bound l a k =
-    by_equal l.account a
-    (λ e. by_equal l.column k
-    (λ f. let x : in_cell l a k ≡ l.amount = in_cell_here l a k e ∙ in_column_here l k f in omega (arith, ints))
-    (λ f. let x : in_cell l a k ≡ pos 0 = in_cell_here l a k e ∙ in_column_off l k f in omega (arith, ints)))
-    (λ e. let x : in_cell l a k ≡ pos 0 = in_cell_off l a k e in omega (arith, ints))
+unfolding in_cell in_column
+leg_bound l a k = grind (arith, ints, nat_tests)
 
-record_bound : (r : Leg) (a k : ℕ) → nat_abs (in_record r a k) ≤ most_amount
+pub record_bound : (r : Leg) (a k : ℕ) → nat_abs (in_record r a k) ≤ most_amount
 unfolding in_record
-record_bound r a k =
-    ⊎_elim
-    (λ t.
-    let x : in_record r a k ≡ in_cell r a k = cond-true _ _ _ t in
-    let y : nat_abs r.amount ≤ most_amount = grind (arith, nat_tests) in
-    omega (arith, ints, leg_bound r a k))
-    (λ f. let x : in_record r a k ≡ pos 0 = cond-false _ _ _ f in omega (arith, ints))
-    (cases_Bool (in_range r))
+record_bound r a k = let h : nat_abs (in_cell r a k) ≤ nat_abs r.amount = leg_bound r a k in grind (arith, ints, nat_tests)
 
 -- so many records, so many times the most amount
 recorded_bound : (rs : List Leg) (a k : ℕ) → nat_abs (recorded rs a k) ≤ length rs * most_amount
@@ -42,12 +33,9 @@ recorded_bound (r ∷ rs) a k = omega (arith, ints, record_bound r a k, recorded
 
 cell_bound : (rs : List Leg) (n : ℕ) (a k : ℕ) → nat_abs (where_listed (recorded (records_taken rs n)) a k) ≤ n * most_amount
 cell_bound rs n a k =
-    ⊎_elim
-    (λ t.
-    let x : where_listed (recorded (records_taken rs n)) a k ≡ recorded (records_taken rs n) a k = cond-true _ _ _ t in
-    omega (arith, ints, recorded_bound (records_taken rs n) a k, length-take (min n most_records) rs))
-    (λ f. let x : where_listed (recorded (records_taken rs n)) a k ≡ pos 0 = cond-false _ _ _ f in omega (arith, ints))
-    (cases_Bool (listed a k))
+    let x : nat_abs (recorded (records_taken rs n) a k) ≤ length (records_taken rs n) * most_amount = recorded_bound (records_taken rs n) a k in
+    let y : length (records_taken rs n) ≤ n = omega (arith, length-take (min n most_records) rs) in
+    grind (arith, ints)
 
 -- A ledger with the limits of a journal, whose cells are at most b from zero.
 record Near (m : Meaning) (b : ℕ) : Type 0 where
@@ -68,7 +56,7 @@ near_fits : (m : Meaning) (b : ℕ) (l : Leg) → InRange l → Near m b → b �
 near_fits m b l h near few =
     let a = l.account in
     let k = l.column in
-    let there : listed a k ≡ true = and_from _ _ (lt-ltb a accounts (omega (arith, h.account))) (lt-ltb k columns (omega (arith, h.column))) in
+    let there : listed a k ≡ true = leg_listed l h in
     let low : m.floor a k ≡ neg_ℤ (pos most_held) = ap (λ f. f a k) near.floors ∙ cond-true _ _ _ there in
     let high : m.ceiling a k ≡ pos most_held = ap (λ f. f a k) near.ceilings ∙ cond-true _ _ _ there in
     let c : nat_abs (m.cell a k) ≤ b = near.cells a k in
@@ -85,8 +73,8 @@ near_stops m b n (l ∷ ls) h near few =
     ∙ near_stops (entered m (l ∷ [])) (b + most_amount) (n + 1) ls h.1 one (omega arith)
 
 -- while all the records together cannot reach a limit, the room alone decides
-pub room_decides : (rs ls : List Leg) (n : ℕ) → AllByRecursion InRange ls → (n + length ls) * most_amount ≤ most_held → length ls ≤ (journal_over rs n).room → verdict (journal_over rs n) ls ≡ Ok tt
+pub room_decides : (rs ls : List Leg) (n : ℕ) → AllByRecursion InRange ls → (n + length ls) * most_amount ≤ most_held → roomy (journal_over rs n) ls ≡ verdict (journal_over rs n) ls
 unfolding verdict
-room_decides rs ls n h few room =
-    cond-false _ _ _ (le-ltb _ _ room)
-    ∙ near_stops (journal_over rs n) (n * most_amount) 1 ls h (record { floors = refl; ceilings = refl; cells = cell_bound rs n }) (omega arith)
+room_decides rs ls n h few =
+    ap (cond (ltb (journal_over rs n).room (length ls)) (Err (by_ledger 17 0 0)))
+    (sym (near_stops (journal_over rs n) (n * most_amount) 1 ls h (record { floors = refl; ceilings = refl; cells = cell_bound rs n }) (omega arith)))

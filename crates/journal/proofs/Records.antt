@@ -1,16 +1,18 @@
 -- What the records of a journal add up to, and what writing legs changes. Assumes nothing.
-use Rattle.std.proofs.Common.{◌≡◌, ℕ, ◌+◌, ◌-◌, ◌<◌, ◌≤◌, min, true, false, List, [], ◌∷◌, ◌++◌, length, get_or, take, drop, pos, ◌+ℤ◌, sym, refl, ap, ◌∙◌, ⊎_elim, append_assoc, add-zero, arith}
+use Rattle.std.proofs.Common.{◌≡◌, ℕ, ◌+◌, ◌-◌, ◌<◌, ◌≤◌, min, true, false, List, [], ◌∷◌, ◌++◌, length, get_or, drop, pos, ◌+ℤ◌, refl, ap, ◌∙◌, arith}
 use borrow.Author.Differences.{ints}
 use Rattle.std.specs.List.{AllByRecursion}
-use Rattle.std.proofs.lemmas.List.{at_drop_more, at_drop_all, take_all, append-nil, length-take, length-append, length-drop, take-append-le, take-append-drop}
-use Rattle.std.proofs.lemmas.Bool.{cond-true, cond-false, and_from, and_cases, le-leb, ltb-false, cases_Bool, cases_lt}
+use Rattle.std.proofs.lemmas.List.{at_drop_more, at_drop_all, length-take, length-append, length-drop}
+use Rattle.std.proofs.lemmas.Bool.{cond-true}
+use Rattle.std.proofs.lemmas.Grind.{common_steps}
+use Rattle.std.proofs.lemmas.Bool.Decides.{nat_tests}
 use Rattle.ledger.specs.declared.leg.Leg.{Leg}
 use Rattle.ledger.specs.Entries.{InRange, in_range}
-use Rattle.ledger.specs.Legs.{in_cell, rise}
+use Rattle.ledger.specs.Legs.{in_column, in_cell, rise}
 use Rattle.ledger.specs.Limits.{listed, where_listed}
 use Rattle.ledger.specs.Meaning.{entered}
+use Rattle.ledger.proofs.Entries.{range_in}
 use Rattle.ledger.proofs.Meanings.{same_meaning}
-use Rattle.ledger.proofs.Rises.{in_cell_off, in_cell_here, in_column_off, by_equal}
 use Rattle.journal.specs.Journal.{most_records, records_taken, in_record, recorded, journal_over, journal_opened, written}
 
 -- the sum of what is left, one record on
@@ -27,9 +29,6 @@ unfolding recorded
 none_recorded a k = refl
 
 -- a record that is a leg adds what the leg does
-range_in : (l : Leg) → InRange l → in_range l ≡ true
-range_in l h = and_from _ _ (le-leb _ _ h.account) (and_from _ _ (le-leb _ _ h.column) (le-leb _ _ h.amount))
-
 pub leg_recorded : (l : Leg) (a k : ℕ) → in_range l ≡ true → in_record l a k ≡ in_cell l a k
 unfolding in_record
 leg_recorded l a k t = cond-true _ _ _ t
@@ -39,29 +38,15 @@ unfolding recorded rise
 legs_recorded [] a k h = refl
 legs_recorded (l ∷ ls) a k h = λ i. leg_recorded l a k (range_in l h.0) i +ℤ legs_recorded ls a k h.1 i
 
--- one that is no leg, or stands elsewhere, adds nothing
-pub elsewhere : (l : Leg) (a k : ℕ) → in_cell l a k ≡ pos 0 → in_record l a k ≡ pos 0
-unfolding in_record
-elsewhere l a k e = ⊎_elim (λ t. cond-true _ _ _ t ∙ e) (λ f. cond-false _ _ _ f) (cases_Bool (in_range l))
-
-pub no_leg : (l : Leg) (a k : ℕ) → in_range l ≡ false → in_record l a k ≡ pos 0
-unfolding in_record
-no_leg l a k f = cond-false _ _ _ f
-
 recorded-append : (rs ls : List Leg) (a k : ℕ) → recorded (rs ++ ls) a k ≡ recorded rs a k +ℤ recorded ls a k
 unfolding recorded
 recorded-append [] ls a k = omega (arith, ints)
 recorded-append (r ∷ rs) ls a k = let h : recorded (rs ++ ls) a k ≡ recorded rs a k +ℤ recorded ls a k = recorded-append rs ls a k in omega (arith, ints)
 
 -- outside the accounts and columns legs add nothing
-pub leg_outside : (l : Leg) (a k : ℕ) → InRange l → listed a k ≡ false → in_cell l a k ≡ pos 0
-leg_outside l a k h o =
-    ⊎_elim
-    (λ p. in_cell_off l a k (let q : 128 ≤ a = ltb-false _ _ p in omega (arith, h.account)))
-    (λ p.
-    let q : 34 ≤ k = ltb-false _ _ p in
-    by_equal l.account a (λ e. in_cell_here l a k e ∙ in_column_off l k (omega (arith, h.column))) (λ e. in_cell_off l a k e))
-    (and_cases _ _ o)
+leg_outside : (l : Leg) (a k : ℕ) → InRange l → listed a k ≡ false → in_cell l a k ≡ pos 0
+unfolding in_cell in_column
+leg_outside l a k h o = let r = h.account in let s = h.column in grind (arith, nat_tests)
 
 legs_outside : (ls : List Leg) (a k : ℕ) → AllByRecursion InRange ls → listed a k ≡ false → rise ls a k ≡ pos 0
 unfolding rise
@@ -74,24 +59,10 @@ legs_outside (l ∷ ls) a k h o =
 -- the cells once legs are written behind the records
 cells_after_lem : (rs ls : List Leg) (a k : ℕ) → AllByRecursion InRange ls → where_listed (recorded (rs ++ ls)) a k ≡ where_listed (recorded rs) a k +ℤ rise ls a k
 cells_after_lem rs ls a k h =
-    ⊎_elim
-    (λ t.
-    let x : where_listed (recorded (rs ++ ls)) a k ≡ recorded (rs ++ ls) a k = cond-true _ _ _ t in
-    let y : where_listed (recorded rs) a k ≡ recorded rs a k = cond-true _ _ _ t in
-    omega (arith, ints, recorded-append rs ls a k, legs_recorded ls a k h))
-    (λ f.
-    let x : where_listed (recorded (rs ++ ls)) a k ≡ pos 0 = cond-false _ _ _ f in
-    let y : where_listed (recorded rs) a k ≡ pos 0 = cond-false _ _ _ f in
-    omega (arith, ints, legs_outside ls a k h f))
-    (cases_Bool (listed a k))
-
--- the records taken, as the front of a list
-pub front : (rs : List Leg) (n k : ℕ) → k ≡ min (min n most_records) (length rs) → take (k - 0) rs ≡ records_taken rs n
-front rs n k e =
-    ⊎_elim
-    (λ h. let j : k - 0 ≡ min n most_records = omega arith in ap (λ j. take j rs) j)
-    (λ h. take_all (k - 0) rs (omega arith) ∙ sym (take_all (min n most_records) rs h))
-    (cases_lt (min n most_records) (length rs))
+    let x : recorded (rs ++ ls) a k ≡ recorded rs a k +ℤ recorded ls a k = recorded-append rs ls a k in
+    let y : recorded ls a k ≡ rise ls a k = legs_recorded ls a k h in
+    let z : listed a k ≡ false → rise ls a k ≡ pos 0 = legs_outside ls a k h in
+    grind (arith, ints)
 
 pub taken_few : (rs : List Leg) (n : ℕ) → length (records_taken rs n) ≤ most_records
 taken_few rs n = omega (arith, length-take (min n most_records) rs)
@@ -101,25 +72,13 @@ pub opened : (rs : List Leg) → journal_over rs 0 ≡ journal_opened rs
 opened rs =
     same_meaning (journal_over rs 0) (journal_opened rs)
     (omega arith)
-    (λ a k. ⊎_elim (λ t. cond-true _ _ _ t ∙ none_recorded a k) (λ f. cond-false _ _ _ f) (cases_Bool (listed a k)))
+    (λ a k. let none : recorded [] a k ≡ pos 0 = none_recorded a k in grind (arith))
     (λ a k. refl)
     (λ a k. refl)
 
 -- the records taken once the legs are written
 pub taken_written : (rs ls : List Leg) (n : ℕ) → length ls ≤ min (length rs) most_records - n → records_taken (written rs n ls) (n + length ls) ≡ records_taken rs n ++ ls
-taken_written rs [] n room =
-    ap (λ xs. records_taken xs (n + 0)) (ap (λ j. take n rs ++ drop j rs) (add-zero n) ∙ take-append-drop n rs)
-    ∙ ap (records_taken rs) (add-zero n)
-    ∙ sym (append-nil _)
-taken_written rs (l ∷ ls) n room =
-    let few : n + length (l ∷ ls) ≤ min (length rs) most_records = omega arith in
-    let long : length (take n rs ++ (l ∷ ls)) ≡ n + length (l ∷ ls) = simp (length-append, length-take) (omega arith) in
-    let all : min (n + length (l ∷ ls)) most_records ≡ n + length (l ∷ ls) = omega arith in
-    ap (λ j. take j (written rs n (l ∷ ls))) all
-    ∙ ap (take (n + length (l ∷ ls))) (sym (append_assoc (take n rs) (l ∷ ls) (drop (n + length (l ∷ ls)) rs)))
-    ∙ take-append-le (n + length (l ∷ ls)) (take n rs ++ (l ∷ ls)) (drop (n + length (l ∷ ls)) rs) (omega arith)
-    ∙ take_all (n + length (l ∷ ls)) (take n rs ++ (l ∷ ls)) (omega arith)
-    ∙ ap (λ j. take j rs ++ (l ∷ ls)) (omega arith)
+taken_written rs ls n room = grind (arith, common_steps)
 
 length-written : (rs ls : List Leg) (n : ℕ) → length ls ≤ min (length rs) most_records - n → length (written rs n ls) ≡ length rs
 length-written rs ls n room = simp (length-append, length-take, length-drop) (omega arith)

@@ -1,12 +1,11 @@
 -- What a journal means, and what its list holds once an entry was taken or refused. Assumes nothing.
-use Rattle.std.specs.Prelude.{◌≡◌, ℕ, ◌+◌, ◌-◌, min, cond, List, [], ◌∷◌, ◌++◌, length, take, drop, ℤ, pos, ◌+ℤ◌, Ok, Err, Result, MatchResult}
+use Rattle.std.specs.Prelude.{◌≡◌, ℕ, ◌+◌, ◌-◌, min, cond, List, [], ◌∷◌, ◌++◌, length, take, drop, ℤ, pos, ◌+ℤ◌, Result, MatchResult}
 use Rattle.register.specs.declared.fault.LedgerFault.{LedgerFault}
-use Rattle.register.specs.Register.{Refusal}
 use Rattle.ledger.specs.declared.leg.Leg.{Leg}
 use Rattle.ledger.specs.Entries.{in_range}
 use Rattle.ledger.specs.Legs.{in_cell}
 use Rattle.ledger.specs.Limits.{where_listed, floor_of, ceiling_of}
-use Rattle.ledger.specs.Meaning.{Meaning, verdict}
+use Rattle.ledger.specs.Meaning.{Meaning, verdict, settled}
 use Rattle.journal.specs.declared.journal.Journal.{Journal}
 
 -- the most records that a journal uses of its list
@@ -55,15 +54,10 @@ written rs n ls = take n rs ++ (ls ++ drop (n + length ls) rs)
 abbrev pub Appended : Journal → Journal → List Leg → Result (Unit {0}) LedgerFault → Type 0
 Appended j i ls r = MatchResult r (λ _. journal_records i ≡ journal_records j ++ ls) (λ _. journal_records i ≡ journal_records j)
 
--- one thing if the answer is yes, another if it is a refusal
-abbrev pub if_taken : {A : Type 0} → Result (Unit {0}) Refusal → A → A → A
-if_taken (Ok x) yea nay = yea
-if_taken (Err e) yea nay = nay
-
 -- the list once the legs were taken or refused: a refusal writes nothing
 abbrev pub records_after : List Leg → ℕ → List Leg → List Leg
-records_after rs n ls = if_taken (verdict (journal_over rs n) ls) (written rs n ls) rs
+records_after rs n ls = settled (verdict (journal_over rs n) ls) (written rs n ls) rs
 
 -- how many records are then taken
 abbrev pub taken_after : List Leg → ℕ → List Leg → ℕ
-taken_after rs n ls = if_taken (verdict (journal_over rs n) ls) (n + length ls) n
+taken_after rs n ls = settled (verdict (journal_over rs n) ls) (n + length ls) n

@@ -1,14 +1,16 @@
 //! A ledger that writes each leg as one record into a list lent to it.
-ghost use Rattle.std.specs.Prelude.{◌≡◌, ◌+◌, ◌≤◌, ◌++◌, length, OnErr};
+ghost use Rattle.std.specs.Prelude.{◌≡◌, ◌+◌, ◌≤◌, ◌++◌, min, length, OnErr};
 ghost use Rattle.register.specs.Register.{ledger_answer};
 ghost use Rattle.ledger.specs.Entries.{EntryLegs};
 ghost use Rattle.ledger.specs.Held.{legs_of};
 ghost use Rattle.ledger.specs.Meaning.{verdict, entered, after};
-ghost use Rattle.journal.specs.Journal.{journal_records, journal_meaning, journal_opened, Appended, written, records_after, taken_after};
+ghost use Rattle.journal.specs.Journal.{most_records, journal_records, journal_meaning, journal_opened, Appended, written, records_after, taken_after};
 
 use crate::sums::{recorded, recorded_row};
-use ledger::{Balances, Entry, Ledger, Leg, ROW_CELLS, ceiling_of, check, floor_of, is_cell};
-use register::{LedgerCause, LedgerFault};
+use ledger::{
+    Balances, Entry, Ledger, Leg, ROW_CELLS, ceiling_of, check, check_room, floor_of, is_cell,
+};
+use register::LedgerFault;
 
 /// The most records that a journal uses of its list.
 pub const MOST_RECORDS: usize = 65_536;
@@ -17,6 +19,7 @@ pub const MOST_RECORDS: usize = 65_536;
 const SAFE_RECORDS: usize = 10_000;
 
 /// A list lent for records, and how many of them are taken, from the first on.
+// the list is lent by the caller, of any length, so no fact ties the number to it
 #[derive(Drop)]
 pub struct Journal<'a> {
     records: &'a mut [Leg],
@@ -36,12 +39,19 @@ impl<'a> Journal<'a> {
 }
 
 impl Journal<'_> {
+    /// How many records of the list the journal uses.
+    fn capacity(&self) -> usize
+        ensures { result ≡ min (length self.now.records.now) most_records }
+    {
+        self.records.len().min(MOST_RECORDS)
+    }
+
     /// The records taken, in order.
     pub fn records(&self) -> &[Leg]
         ensures { result.now ≡ journal_records self.now }
     {
-        let count = self.taken.min(MOST_RECORDS).min(self.records.len());
-        &self.records[0..count]
+        let count = self.taken.min(self.capacity());
+        &self.records[..count]
     }
 
     /// The refusal that the journal has for the entry, if it has one. While the records are few, the room decides and
@@ -49,18 +59,11 @@ impl Journal<'_> {
     fn decide(&self, entry: &Entry) -> Result<(), LedgerFault>
         ensures { ledger_answer result ≡ verdict (journal_meaning self.now) (legs_of entry.now) }
     {
-        let count = entry.legs().len();
-        if self.taken.saturating_add(count) > SAFE_RECORDS {
-            return check(self, entry);
+        if self.taken.saturating_add(entry.legs().len()) > SAFE_RECORDS {
+            check(self, entry)
+        } else {
+            check_room(self, entry)
         }
-        if self.room() < count as u64 {
-            return Err(LedgerFault {
-                cause: LedgerCause::NoRoom,
-                place: 0,
-                height: 0,
-            });
-        }
-        Ok(())
     }
 
     /// Writes each leg at the next free record.
@@ -73,11 +76,12 @@ impl Journal<'_> {
         ensures taken { self.new.taken ≡ self.old.taken + length legs.now }
         ensures named { self.new.records.ghost_name ≡ self.old.records.ghost_name }
     {
-        let free = self.taken;
-        for i in 0..legs.len() {
-            self.records[free + i] = legs[i];
+        let end = self.taken + legs.len();
+        // without legs nothing says that the records taken are within the list
+        if !legs.is_empty() {
+            self.records[self.taken..end].copy_from_slice(legs);
         }
-        self.taken = free + legs.len();
+        self.taken = end;
     }
 }
 
@@ -93,10 +97,7 @@ impl Balances for Journal<'_> {
     }
 
     fn room(&self) -> u64 {
-        self.records
-            .len()
-            .min(MOST_RECORDS)
-            .saturating_sub(self.taken) as u64
+        self.capacity().saturating_sub(self.taken) as u64
     }
 
     fn cell(&self, account: u64, column: u64) -> i64 {

@@ -1,29 +1,26 @@
 //! What records add to a cell.
-ghost use Rattle.std.specs.Prelude.{◌≡◌, ℕ, ◌<◌, ◌≤◌, length, pos, slice_index_or, unsigned_abs};
+ghost use Rattle.std.specs.Prelude.{◌≡◌, ◌==◌, ◌&&◌, ℕ, ◌<◌, ◌≤◌, length, pos, slice_index_or, unsigned_abs};
 ghost use Rattle.money.specs.Conversions.{most_amount};
 ghost use Rattle.ledger.specs.Entries.{in_range};
 ghost use Rattle.ledger.specs.Limits.{columns};
 ghost use Rattle.journal.specs.Journal.{in_record, recorded, most_records};
 
-use ledger::{Leg, MOST_ACCOUNT, MOST_COLUMN, ROW_CELLS};
-use money::MOST_AMOUNT;
+use ledger::{Leg, ROW_CELLS};
 
-/// Whether account, column and amount are a leg's.
-fn is_leg(leg: Leg) -> bool
-    ensures { result ≡ in_range leg }
+/// Whether the record is a leg of the account.
+fn is_leg_of(leg: Leg, account: u64) -> bool
+    ensures { result ≡ (leg.account == account && in_range leg) }
 {
-    leg.account <= MOST_ACCOUNT
-        && leg.column <= MOST_COLUMN
-        && leg.amount >= -MOST_AMOUNT
-        && leg.amount <= MOST_AMOUNT
+    leg.account as u64 == account && leg.is_in_range()
 }
 
 /// What one record adds to a cell: nothing if it is no leg.
+#[tactic(auto, unfolding(crate::specs::Journal::in_record, ledger::specs::Legs::in_cell, ledger::specs::Legs::in_column))]
 fn in_record(leg: Leg, account: u64, column: u64) -> i64
     ensures value { result ≡ in_record leg account column }
     ensures bound { unsigned_abs result ≤ most_amount }
 {
-    if is_leg(leg) && leg.account as u64 == account && leg.column as u64 == column {
+    if is_leg_of(leg, account) && leg.column as u64 == column {
         leg.amount
     } else {
         0
@@ -50,7 +47,7 @@ pub(crate) fn recorded_row(records: &[Leg], account: u64) -> [i64; ROW_CELLS]
 {
     let mut row = [0i64; ROW_CELLS];
     for leg in records {
-        if leg.account as u64 == account && is_leg(*leg) {
+        if is_leg_of(*leg, account) {
             row[leg.column as usize] += leg.amount;
         }
     }

@@ -2,10 +2,11 @@
 use Rattle.std.proofs.Common.{◌≡◌, ℕ, ◌+◌, ◌<◌, ◌≤◌, true, ◌&&◌, ◌≢◌, List, [], ◌∷◌, length, get_or, drop, ℤ, pos, negsuc, Decides, refl, ap, subst, arith}
 use Rattle.std.specs.List.{AllByRecursion}
 use Rattle.std.proofs.lemmas.List.{at_drop_more, at_drop_all}
-use Rattle.std.proofs.lemmas.Bool.{and_parts, and_from, leb-true, le-leb, eqb-true}
+use Rattle.std.proofs.lemmas.Bool.{and_parts, and_from, leb-true, le-leb, lt-ltb, eqb-true}
 use Rattle.ledger.specs.declared.leg.Leg.{Leg}
 use Rattle.ledger.specs.Legs.{column_sum}
 use Rattle.ledger.specs.Entries.{InRange, EntryLegs, in_range, all_in_range, is_zero, zero_at_each, is_entry}
+use Rattle.ledger.specs.Limits.{accounts, columns, listed}
 use Rattle.ledger.proofs.Rises.{by_equal, column_off}
 
 -- one leg on
@@ -30,14 +31,17 @@ unfolding is_entry all_in_range zero_at_each
 empty_entry = refl
 
 -- each test and its fact
-in_range_lem : (l : Leg) → in_range l ≡ true → InRange l
+pub in_range_lem : (l : Leg) → in_range l ≡ true → InRange l
 in_range_lem l e =
     let p = and_parts _ _ e in
     let q = and_parts _ _ p.1 in
     record { account = leb-true _ _ p.0; column = leb-true _ _ q.0; amount = leb-true _ _ q.1 }
 
-range_in : (l : Leg) → InRange l → in_range l ≡ true
+pub range_in : (l : Leg) → InRange l → in_range l ≡ true
 range_in l h = and_from _ _ (le-leb _ _ h.account) (and_from _ _ (le-leb _ _ h.column) (le-leb _ _ h.amount))
+
+pub leg_listed : (l : Leg) → InRange l → listed l.account l.column ≡ true
+leg_listed l h = and_from _ _ (lt-ltb l.account accounts (omega (arith, h.account))) (lt-ltb l.column columns (omega (arith, h.column)))
 
 all_in_range_lem : (ls : List Leg) → all_in_range ls ≡ true → AllByRecursion InRange ls
 unfolding all_in_range

@@ -1,7 +1,7 @@
 -- Meanings that agree everywhere are equal, and legs entered one after another. Assumes nothing.
 use Rattle.std.proofs.Common.{◌≡◌, ℕ, ◌+◌, ◌<◌, List, [], ◌∷◌, ◌++◌, length, get_or, take, ℤ, pos, Ok, Err, sym, refl, ap, ◌∙◌, arith, length-append}
 use borrow.Author.Differences.{ints}
-use Rattle.std.proofs.lemmas.List.FromFn.{fill_by_all, get_or-map-range_with_len, length-map-range_with_len}
+use Rattle.std.proofs.lemmas.List.FromFn.{fill_by_all, get_or-map-range_with_len}
 use Rattle.std.proofs.lemmas.List.{take_more}
 use Rattle.register.specs.Register.{Refusal}
 use Rattle.ledger.specs.declared.leg.Leg.{Leg}
@@ -46,7 +46,3 @@ row_is m a row l f = fill_by_all (m.cell a) row columns (pos 0) l f
 pub row_reads : (m : Meaning) (a k : ℕ) (d : ℤ) → k < columns → get_or (row_of m a) k d ≡ m.cell a k
 unfolding row_of
 row_reads m a k d h = get_or-map-range_with_len (m.cell a) 0 columns k k d h (omega arith)
-
-pub row_length : (m : Meaning) (a : ℕ) → length (row_of m a) ≡ columns
-unfolding row_of
-row_length m a = length-map-range_with_len (m.cell a) 0 columns

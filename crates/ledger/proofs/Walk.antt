@@ -1,7 +1,7 @@
 -- The verdict on legs, one leg on. Assumes nothing.
 use Rattle.std.proofs.Common.{◌≡◌, ℕ, ◌+◌, ◌<◌, ◌≤◌, Bool, true, false, cond, ltb, List, length, get_or, take, drop, Ok, Err, Result, sym, refl, ap, ◌∙◌, arith}
 use Rattle.std.proofs.lemmas.List.{at_drop_more, at_drop_all}
-use Rattle.std.proofs.lemmas.Bool.{cond-true, cond-false, lt-ltb, le-ltb, ltb-false}
+use Rattle.std.proofs.lemmas.Bool.{cond-false, le-ltb, ltb-false}
 use Rattle.register.specs.Register.{Refusal, by_ledger}
 use Rattle.ledger.specs.declared.leg.Leg.{Leg}
 use Rattle.ledger.specs.Meaning.{Meaning, entered, fits, stops, roomy, verdict}
@@ -23,10 +23,6 @@ left_more m ls i d h =
 pub left_all : (m : Meaning) (ls : List Leg) (i : ℕ) → length ls ≤ i → left m ls i ≡ Ok tt
 unfolding stops
 left_all m ls i h = at_drop_all (stops (entered m (take i ls)) (i + 1)) ls i h
-
-pub verdict_room : (m : Meaning) (ls : List Leg) → m.room < length ls → verdict m ls ≡ Err (by_ledger 17 0 0)
-unfolding verdict
-verdict_room m ls h = cond-true _ _ _ (lt-ltb m.room (length ls) h)
 
 pub verdict_walk : (m : Meaning) (ls : List Leg) → length ls ≤ m.room → verdict m ls ≡ left m ls 0
 unfolding verdict

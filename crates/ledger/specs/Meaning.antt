@@ -47,8 +47,8 @@ roomy m ls = cond (nat_lt m.room (length ls)) (Err (by_ledger 17 0 0)) (Ok tt)
 unfoldable pub verdict : Meaning → List Leg → Result (Unit {0}) Refusal
 verdict m ls = cond (nat_lt m.room (length ls)) (Err (by_ledger 17 0 0)) (stops m 1 ls)
 
--- one meaning if the answer is yes, another if it is a refusal
-abbrev pub settled : Result (Unit {0}) Refusal → Meaning → Meaning → Meaning
+-- one thing if the answer is yes, another if it is a refusal
+abbrev pub settled : {A : Type 0} → Result (Unit {0}) Refusal → A → A → A
 settled (Ok x) taken refused = taken
 settled (Err e) taken refused = refused
 

@@ -16,10 +16,14 @@ pub trait Balances {
     /// The letter of the ledger's type.
     const KIND: char;
 
-    // the same, where a clause names it
-    ghost KIND: { ℕ };
+    // a ghost named `KIND` gets no proof in an impl whose type has a lifetime, as a sheet's and a journal's
+    ghost letter: { ℕ };
 
     ghost meaning: { Self → Meaning };
+
+    /// The letter of the ledger's type, `KIND`.
+    fn kind_letter(&self) -> char
+        ensures { result ≡ letter };
 
     /// How many more legs the ledger takes.
     fn room(&self) -> u64
@@ -37,6 +41,7 @@ pub trait Balances {
         array::from_fn(|column| self.cell(account, column as u64))
     }
 
+    // no body in the trait for the limits: another ledger may have its own
     /// The least that the cell may hold; 0 outside the accounts and columns.
     fn floor(&self, account: u64, column: u64) -> i64
         ensures value { result ≡ (meaning self.now).floor account column }

@@ -16,10 +16,10 @@ empty_ledger room = record { room = room; cell = λ a k. pos 0; floor = floor_of
 
 -- the state of a book on a sheet, and of one on a journal
 abbrev pub sheet_state : Book Sheet → State
-sheet_state b = state_of (record { KIND = 83; meaning = sheet_meaning }) b
+sheet_state b = state_of (record { letter = 83; meaning = sheet_meaning }) b
 
 abbrev pub journal_state : Book Journal → State
-journal_state b = state_of (record { KIND = 74; meaning = journal_meaning }) b
+journal_state b = state_of (record { letter = 74; meaning = journal_meaning }) b
 
 -- a book on a sheet of room 4,000,000, and one on a journal of 4,096 records; both bear the mark 1
 unfoldable pub sheet_book : State

@@ -1,44 +1,42 @@
 -- What holds as the next leg is added, and once all are. Assumes nothing.
 use Rattle.std.proofs.Common.{◌≡◌, ℕ, ◌+◌, ◌-◌, ◌<◌, ◌≤◌, true, false, cond, leb, List, [], ◌∷◌, length, get_or, take, ℤ, pos, ◌+ℤ◌, neg_ℤ, ◌≤ℤ◌, Ok, sym, refl, ap, ◌∙◌, subst, ⊎_elim, arith}
 use borrow.Author.Differences.{ints}
-use lib.Signed.{le_z}
 use Rattle.std.specs.List.{AllByRecursion}
 use Rattle.std.proofs.ByRecursion.{All-get_or, All-take}
 use Rattle.std.proofs.lemmas.List.Sums.{fold_more}
-use Rattle.std.proofs.lemmas.Bool.{cond-true, cond-false, cases_Bool, leb-true, and_parts}
+use Rattle.std.proofs.lemmas.Bool.{cond-true, cond-false, cases_Bool, leb-true}
+use Rattle.std.proofs.lemmas.Bool.Decides.{nat_tests}
 use Rattle.ledger.specs.declared.leg.Leg.{Leg}
 use Rattle.ledger.specs.Entries.{InRange, EntryLegs}
 use Rattle.ledger.specs.Legs.{leg}
-use Rattle.ledger.specs.Limits.{listed, most_held, floor_of, ceiling_of}
-use Rattle.ledger.specs.Meaning.{entered, fits, verdict, after}
+use Rattle.ledger.specs.Limits.{listed, most_held}
+use Rattle.ledger.specs.Meaning.{entered, fits, verdict, after, settled}
+use Rattle.ledger.proofs.Entries.{leg_listed}
 use Rattle.ledger.proofs.Meanings.{same_meaning, entered_none, entered_more, after_taken}
 use Rattle.ledger.proofs.Rises.{in_own_cell, rise_one}
 use Rattle.ledger.proofs.Walk.{left, left_step, verdict_taken}
-use Rattle.sheet.specs.Cells.{sheet_cells, long, place_of, sheet_cell, sheet_over, added, posted, settled_cells, cells_after}
-use Rattle.sheet.proofs.Cells.{leg_listed, cell_read, cell_posted, posted_length, place_in}
+use Rattle.sheet.specs.Cells.{sheet_cells, long, place_of, sheet_cell, sheet_over, added, posted, cells_after}
+use Rattle.sheet.proofs.Cells.{cell_read, cell_posted, posted_length, place_in}
 
 -- only a list that is long enough has room
 room_long : (xs : List ℤ) (room n : ℕ) → n < cond (long xs) room 0 → sheet_cells ≤ length xs
-room_long xs room n h =
-    ⊎_elim
-    (λ t. leb-true sheet_cells (length xs) t)
-    (λ f. absurd (omega (arith, subst (λ r. n < r) (cond-false (long xs) room 0 f) h)))
-    (cases_Bool (long xs))
-
-at_least : (z w : ℤ) → le_z z w ≡ true → z ≤ℤ w
-at_least z w e = grind (arith, ints)
+room_long xs room n h = grind (arith, nat_tests)
 
 -- the leg at place i of the list
 abbrev pub leg_at : List Leg → ℕ → Leg
 leg_at ls i = get_or ls i (leg 0 0 (pos 0))
+
+-- what the leg's cell holds once it is added
+abbrev pub grown : List ℤ → Leg → ℤ
+grown ys l = get_or ys (place_of l.account l.column) (pos 0) +ℤ l.amount
 
 -- what holds as leg i is added to the list ys
 pub record Next (xs ys : List ℤ) (room : ℕ) (ls : List Leg) (i : ℕ) : Type 0 where
   pub range : InRange (leg_at ls i)
   pub listed : listed (leg_at ls i).account (leg_at ls i).column ≡ true
   pub place : place_of (leg_at ls i).account (leg_at ls i).column < length ys
-  pub low : neg_ℤ (pos most_held) ≤ℤ (get_or ys (place_of (leg_at ls i).account (leg_at ls i).column) (pos 0) +ℤ (leg_at ls i).amount)
-  pub high : (get_or ys (place_of (leg_at ls i).account (leg_at ls i).column) (pos 0) +ℤ (leg_at ls i).amount) ≤ℤ pos most_held
+  pub low : neg_ℤ (pos most_held) ≤ℤ grown ys (leg_at ls i)
+  pub high : grown ys (leg_at ls i) ≤ℤ pos most_held
   pub cells : added ys (leg_at ls i) ≡ posted xs (take (i + 1) ls)
   pub on : left (sheet_over xs room) ls (i + 1) ≡ Ok tt
 
@@ -58,7 +56,7 @@ module _ (xs ys : List ℤ) (room : ℕ) (ls : List Leg) (i : ℕ)
   here = leg_listed (leg_at ls i) range
 
   -- the sum is the leg's cell once the leg is entered
-  next : get_or ys (place_of (leg_at ls i).account (leg_at ls i).column) (pos 0) +ℤ (leg_at ls i).amount ≡ (entered (entered (sheet_over xs room) (take i ls)) (leg_at ls i ∷ [])).cell (leg_at ls i).account (leg_at ls i).column
+  next : grown ys (leg_at ls i) ≡ (entered (entered (sheet_over xs room) (take i ls)) (leg_at ls i ∷ [])).cell (leg_at ls i).account (leg_at ls i).column
   unfolding entered
   next =
       (λ j. (sym (cell_read ys (leg_at ls i).account (leg_at ls i).column long_ys here)
@@ -75,8 +73,8 @@ module _ (xs ys : List ℤ) (room : ℕ) (ls : List Leg) (i : ℕ)
     range = range;
     listed = here;
     place = place_in ys (leg_at ls i) range long_ys;
-    low = at_least _ _ (subst (λ z. le_z z (get_or ys (place_of (leg_at ls i).account (leg_at ls i).column) (pos 0) +ℤ (leg_at ls i).amount) ≡ true) (cond-true _ _ _ here) (subst (λ v. le_z (floor_of (leg_at ls i).account (leg_at ls i).column) v ≡ true) (sym next) (and_parts _ _ within).0));
-    high = at_least _ _ (subst (λ z. le_z (get_or ys (place_of (leg_at ls i).account (leg_at ls i).column) (pos 0) +ℤ (leg_at ls i).amount) z ≡ true) (cond-true _ _ _ here) (subst (λ v. le_z v (ceiling_of (leg_at ls i).account (leg_at ls i).column) ≡ true) (sym next) (and_parts _ _ within).1));
+    low = let w = within in let e = next in let h = here in grind (arith, ints, nat_tests);
+    high = let w = within in let e = next in let h = here in grind (arith, ints, nat_tests);
     cells = ap (λ zs. added zs (leg_at ls i)) same ∙ sym (fold_more added xs ls i (leg 0 0 (pos 0)) lt);
     on = (left_step (sheet_over xs room) ls i (leg 0 0 (pos 0)) lt on).1;
   }
@@ -110,4 +108,4 @@ pub taken_meaning : (xs ys : List ℤ) (room r : ℕ) (ls : List Leg) → verdic
 taken_meaning xs ys room r ls t h e f = (λ i. sheet_over (e i) (f i)) ∙ posted_meaning xs room ls t h ∙ sym (after_taken (sheet_over xs room) ls t)
 
 pub taken_cells : (xs ys : List ℤ) (room : ℕ) (ls : List Leg) → verdict (sheet_over xs room) ls ≡ Ok tt → ys ≡ posted xs ls → ys ≡ cells_after xs room ls
-taken_cells xs ys room ls t e = e ∙ sym (ap (λ r. settled_cells r (posted xs ls) xs) t)
+taken_cells xs ys room ls t e = e ∙ sym (ap (λ r. settled r (posted xs ls) xs) t)

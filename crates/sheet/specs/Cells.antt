@@ -1,9 +1,8 @@
 -- The list of a sheet: a row of columns for each account. Assumes nothing.
-use Rattle.std.specs.Prelude.{ℕ, ◌+◌, ◌*◌, min, Bool, cond, List, ◌++◌, length, drop, replicate, ℤ, pos, ◌+ℤ◌, Ok, Err, fold, Result, nat_le, slice_index_or, slice_set}
-use Rattle.register.specs.Register.{Refusal}
+use Rattle.std.specs.Prelude.{ℕ, ◌+◌, ◌*◌, min, Bool, cond, List, ◌++◌, length, drop, replicate, ℤ, pos, ◌+ℤ◌, fold, nat_le, slice_index_or, slice_set}
 use Rattle.ledger.specs.declared.leg.Leg.{Leg}
 use Rattle.ledger.specs.Limits.{accounts, columns, where_listed, floor_of, ceiling_of}
-use Rattle.ledger.specs.Meaning.{Meaning, verdict}
+use Rattle.ledger.specs.Meaning.{Meaning, verdict, settled}
 
 -- the cells of a sheet: 4,352
 abbrev pub sheet_cells : ℕ
@@ -50,11 +49,6 @@ added xs l = slice_set xs (place_of l.account l.column) (slice_index_or xs (plac
 abbrev pub posted : List ℤ → List Leg → List ℤ
 posted xs ls = fold added xs ls
 
--- one list if the answer is yes, another if it is a refusal
-abbrev pub settled_cells : Result (Unit {0}) Refusal → List ℤ → List ℤ → List ℤ
-settled_cells (Ok x) taken refused = taken
-settled_cells (Err e) taken refused = refused
-
 -- the list once the legs were taken or refused: a refusal writes nothing
 abbrev pub cells_after : List ℤ → ℕ → List Leg → List ℤ
-cells_after xs room ls = settled_cells (verdict (sheet_over xs room) ls) (posted xs ls) xs
+cells_after xs room ls = settled (verdict (sheet_over xs room) ls) (posted xs ls) xs

@@ -5,19 +5,22 @@ ghost use Rattle.ledger.specs.Entries.{EntryLegs};
 ghost use Rattle.ledger.specs.Held.{legs_of};
 ghost use Rattle.ledger.specs.Limits.{listed};
 ghost use Rattle.ledger.specs.Meaning.{verdict, after};
-ghost use Rattle.sheet.specs.Cells.{place_of, sheet_opened, cleared, posted, cells_after};
+ghost use Rattle.sheet.specs.Cells.{long, place_of, sheet_opened, cleared, posted, cells_after};
 ghost use Rattle.sheet.specs.Sheet.{sheet_meaning};
 
-use ledger::{Balances, COLUMNS, Entry, Ledger, Leg, ceiling_of, check, floor_of, is_cell};
+use ledger::{
+    ACCOUNTS, Balances, COLUMNS, Entry, Ledger, Leg, ceiling_of, check, floor_of, is_cell,
+};
 use register::LedgerFault;
 
-/// The cells of a sheet: one for each account and column.
-pub const SHEET_CELLS: usize = 4_352;
+/// The cells of a sheet: one for each account and column, 4,352.
+pub const SHEET_CELLS: usize = (ACCOUNTS * COLUMNS) as usize;
 
 /// The most legs that a sheet takes.
 pub const MOST_ROOM: u64 = 9_000_000;
 
 /// A list of numbers, a row of columns for each account, and how many more legs it takes.
+// the list is lent by the caller, of any length, so no fact ties the room to it
 #[derive(Drop)]
 pub struct Sheet<'a> {
     cells: &'a mut [i64],
@@ -32,6 +35,13 @@ fn place_of(account: u64, column: u64) -> usize
     (account * COLUMNS + column) as usize
 }
 
+/// Whether the list has every cell. One that is too short is read as zeros, and takes no leg.
+fn is_long(cells: &[i64]) -> bool
+    ensures { result ≡ long cells.now }
+{
+    cells.len() >= SHEET_CELLS
+}
+
 impl<'a> Sheet<'a> {
     /// Clears the first cells of the list and leaves what follows. A list that is too short is left as it is, and
     /// the sheet then has no room.
@@ -40,12 +50,10 @@ impl<'a> Sheet<'a> {
         ensures cells { result.cells.now ≡ cleared cells.old }
         ensures named { result.cells.ghost_name ≡ cells.entry.ghost_name }
     {
-        if cells.len() < SHEET_CELLS {
+        if !is_long(cells) {
             return Sheet { cells, room: 0 };
         }
-        for i in 0..SHEET_CELLS {
-            cells[i] = 0;
-        }
+        cells[..SHEET_CELLS].fill(0);
         Sheet {
             cells,
             room: room.min(MOST_ROOM),
@@ -82,15 +90,11 @@ impl Balances for Sheet<'_> {
     }
 
     fn room(&self) -> u64 {
-        if self.cells.len() < SHEET_CELLS {
-            0
-        } else {
-            self.room
-        }
+        if is_long(self.cells) { self.room } else { 0 }
     }
 
     fn cell(&self, account: u64, column: u64) -> i64 {
-        if is_cell(account, column) && self.cells.len() >= SHEET_CELLS {
+        if is_cell(account, column) && is_long(self.cells) {
             self.cells[place_of(account, column)]
         } else {
             0

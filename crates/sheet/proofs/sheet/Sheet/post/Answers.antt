@@ -1,10 +1,9 @@
 -- Each leg is added in turn. Assumes nothing.
-use Rattle.std.proofs.Common.{◌≡◌, ◌-◌, ◌<◌, ◌≤◌, length, get_or, set, pos, ◌+ℤ◌, sym, refl, ap, ◌∙◌, arith, w64, SFits, to_z, of_z}
-use Rattle.std.proofs.lemmas.List.{take_all}
+use Rattle.std.proofs.Common.{◌≡◌, ◌<◌, ◌≤◌, length, get_or, set, pos, ◌+ℤ◌, sym, refl, ap, ◌∙◌, arith, w64, SFits, to_z, of_z}
 use Rattle.std.proofs.lemmas.Int.{ints}
 use Rattle.std.proofs.lemmas.Bool.{cond_both}
 use Rattle.ledger.proofs.Walk.{verdict_walk, verdict_taken}
-use Rattle.sheet.specs.Cells.{long, place_of, posted}
+use Rattle.sheet.specs.Cells.{long, place_of}
 use Rattle.sheet.specs.Sheet.{sheet_meaning}
 use Rattle.sheet.proofs.Posting.{Next, next_leg, leg_at}
 use Rattle.sheet.proofs.sheet.Sheet.post.Goals as goal
@@ -35,12 +34,10 @@ sum c =
     let l = leg_at c.args.legs.now c.loop-leg.leg-index in
     let n : Next c.args.self.now.cells.now ys c.args.self.now.room c.args.legs.now c.loop-leg.leg-index = at_place c in
     let same : get_or ys c.place_of-place.result (pos 0) ≡ get_or ys (place_of l.account l.column) (pos 0) = ap (λ k. get_or ys k (pos 0)) c.place_of-place.ensures in
-    let f : SFits w64 (get_or ys c.place_of-place.result (pos 0)) = omega (arith, ints, n.low, n.high, n.range.amount) in
-    let h : SFits w64 l.amount = omega (arith, ints, n.range.amount) in
     record {
       place = omega (arith, n.place, c.place_of-place.ensures);
-      fits = omega (arith, ints, n.low, n.high);
-      is = omega (arith, ints, n.low, n.high);
+      fits = omega (arith, ints, n.low, n.high, n.range.amount);
+      is = omega (arith, ints, n.low, n.high, n.range.amount);
     }
 
 pub bounds-self-place : goal.bounds-self-place
@@ -71,10 +68,3 @@ overflow_sub-self c =
     let room = c.args.self.now.room in
     let enough : length c.args.legs.now ≤ m.room = (verdict_taken m c.args.legs.now c.requires.taken).0 in
     omega (arith, enough, c.loop-leg.invariant.2, cond_both (long c.args.self.now.cells.now) room 0 (λ n. n ≤ room) (λ _. omega arith) (λ _. omega arith))
-
-pub returns : goal.returns
-returns c = record {
-  cells = c.loop-leg.invariant.0 ∙ ap (posted c.args.self.now.cells.now) (take_all _ _ c.loop-leg-test.false);
-  room = ap (λ r. r - length c.args.legs.now) c.loop-leg.invariant.2;
-  named = c.loop-leg.invariant.3;
-}
