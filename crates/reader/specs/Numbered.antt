@@ -12,4 +12,4 @@ left_over s = s.rest.now
 abbrev pub GivesLine : Lines → Option (ℕ × Bor (List ℕ)) → Lines → Type 0
 GivesLine s item t =
     MatchOption item (left_over s ≡ []) (λ given.
-      (given.0 ≡ s.number) × (t.number ≡ s.number + 1) × (lines_of (left_over s) ≡ given.1.now ∷ lines_of (left_over t)))
+    (given.0 ≡ s.number) × (t.number ≡ s.number + 1) × (lines_of (left_over s) ≡ given.1.now ∷ lines_of (left_over t)))
