@@ -1,3 +1,4 @@
+mod Admitted
 mod Asked
 mod Below
 mod Conversions

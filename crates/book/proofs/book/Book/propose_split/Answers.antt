@@ -7,6 +7,7 @@ use Rattle.apportion.proofs.Fairness.{length-portions, length-fractions}
 use Rattle.ledger.proofs.Entries.{entry_legs_lem}
 use Rattle.postings.proofs.Valid.{split_is_entry}
 use Rattle.book.specs.View.{state_of}
+use Rattle.book.proofs.Admitted.{fit_passes, named_passes}
 use Rattle.book.proofs.Splits.{front_of, holds_front, wide_passes, splitting_refused, splitting_passes, entering_splits}
 use Rattle.book.proofs.book.Book.propose_split.Goals as goal
 
@@ -17,7 +18,7 @@ returns-in_err-apportion g c =
     let tie = g.R.TieRule.tie c.args.rule.now in
     rw (p.1, p.2)
     (record {
-      value = splitting_refused s tie c.args.division c.args.shares.now c.args.lent.portions c.args.lent.fractions c.in_ok-currency.currency c.if-not-self.false (sym c.in_ok-currency.ensures) (sym c.if-not-is_named.ensures) _ c.in_err-apportion.ensures.value;
+      value = splitting_refused s tie c.args.division c.args.shares.now c.args.lent.portions c.args.lent.fractions c.in_ok-currency.currency (fit_passes s c.in_ok-check_fit.ensures) (sym c.in_ok-currency.ensures) (named_passes c.args.division.account c.in_ok-check_named.ensures) _ c.in_err-apportion.ensures.value;
       portions = tt;
       fractions = tt;
     })
@@ -42,7 +43,7 @@ returns g c =
     let amount = nat_abs d.amount.0 in
     let made = c.in_ok-apportion.ensures in
     let kind = c.in_ok-currency.currency in
-    let account = sym c.if-not-is_named.ensures in
+    let account = named_passes c.args.division.account c.in_ok-check_named.ensures in
     let long : k ≤ m = c.if-lent-shares.false in
     let wide : k ≤ n = c.if-lent-shares-2.false in
     let passes : Ok tt ≡ verdict d.amount.0 shares m n = wide_passes d.amount.0 shares m n made.value long wide in
@@ -52,7 +53,7 @@ returns g c =
     record {
       value =
           ap Ok (entering_splits tie d kind shares (take k c.apportion.new.portions) (take (k - 0) c.apportion.new.portions) (take k c.apportion.new.fractions) c.split_entry-entry.result ps (ap (λ j. take j c.apportion.new.portions) (omega arith)) fs c.split_entry-entry.ensures is)
-          ∙ splitting_passes s tie d shares m n kind c.if-not-self.false (sym c.in_ok-currency.ensures) account passes;
+          ∙ splitting_passes s tie d shares m n kind (fit_passes s c.in_ok-check_fit.ensures) (sym c.in_ok-currency.ensures) account passes;
       portions = record { front = ps; enough = holds_front _ _ k ps (length-portions tie amount shares); room = long };
       fractions = record { front = fs; enough = holds_front _ _ k fs (length-fractions tie amount shares); room = wide };
     }
