@@ -1,11 +1,12 @@
 -- The cells of an audit, one column and one account on. Assumes nothing.
 use Rattle.std.proofs.Common.{◌≡◌, ℕ, ◌+◌, Bool, true, false, cond, not, List, [], ◌∷◌, ◌++◌, length, ℤ, pos, negsuc, sym, refl, ap, ◌∙◌, append_assoc, append-nil, arith}
 use Rattle.std.specs.List.{range_with_len, flat_map}
-use Rattle.std.proofs.lemmas.List.FromFn.{filter_of_map_range_with_len_more, map-range_with_len_more}
+use Rattle.std.proofs.lemmas.List.FromFn.{filter_of_map_range_with_len_more, length-map-range_with_len, map-range_with_len_more}
 use Rattle.std.proofs.lemmas.List.{length-append, length_push, flat_map_more, map-id}
 use Rattle.std.proofs.lemmas.Bool.{ne_eqb}
 use Rattle.ledger.specs.Entries.{is_zero}
 use Rattle.ledger.specs.Limits.{columns}
+use Rattle.ledger.specs.Meaning.{Meaning, row_of}
 use Rattle.model.specs.State.{State}
 use Rattle.transcript.specs.declared.audit.Cell.{Cell}
 use Rattle.transcript.specs.Text.{cell_text}
@@ -63,3 +64,8 @@ zero_is z e = ap is_zero e
 pub not_zero : (z : ℤ) → (z ≡ pos 0 → ⊥) → is_zero z ≡ false
 not_zero (pos n) h = ne_eqb n 0 (λ (e : n ≡ 0). h (ap pos e))
 not_zero (negsuc n) h = refl
+
+-- an account has a cell for each column
+pub row_length : (m : Meaning) (a : ℕ) → length (row_of m a) ≡ columns
+unfolding row_of
+row_length m a = length-map-range_with_len (m.cell a) 0 columns

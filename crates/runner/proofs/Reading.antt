@@ -1,17 +1,15 @@
 -- What is read of a stream, and what the stream holds. Assumes nothing.
-use Rattle.std.proofs.Common.{◌≡◌, ℕ, ◌+◌, ◌≤◌, ◌<◌, true, false, leb, List, [], ◌++◌, length, take, Some, None, Ok, Err, Option, Result, IfSome, OnOk, sym, refl, ap, ◌∙◌, subst, append-nil, arith}
+use Rattle.std.proofs.Common.{◌≡◌, ℕ, ◌+◌, ◌≤◌, ◌<◌, true, false, leb, List, [], ◌++◌, length, take, Some, None, Ok, Err, Option, Result, IfSome, OnOk, sym, refl, ap, ◌∙◌, subst, arith}
 use Rattle.std.proofs.lemmas.List.{length-take, take_all}
 use Rattle.std.proofs.lemmas.Bool.{leb-true, leb-false, le-leb, lt-leb, cond-true, cond-false}
 use Rattle.std.specs.Option.{option_map}
 use Rattle.std.specs.Io.KnownBytes.{Appends}
 use Rattle.register.specs.Register.{by_reader}
-use Rattle.model.specs.Conservation.{ConservedThrough}
 use Rattle.model.specs.History.{after}
 use Rattle.model.specs.State.{State}
 use Rattle.reader.specs.Lines.{lines_of}
 use Rattle.requests.specs.Requests.{Rule}
-use Rattle.runner.specs.Answers.{most_input, answer_line, lines_calls, lines_text, input_calls}
-use Rattle.runner.specs.Audit.{audit_text}
+use Rattle.runner.specs.Answers.{most_input, answer_line, lines_text, input_calls}
 use Rattle.runner.specs.Progress.{SomeDone}
 use Rattle.runner.specs.Transcript.{transcript_of}
 use Rattle.runner.proofs.Steps.{all_stopped, none_done}
@@ -41,9 +39,9 @@ module _ (rule : Rule) (s : State) where
       by_length bs
       (λ h. ap (transcript_of rule s) (front_whole bs h))
       (λ h.
-        let long : leb (length bs) most_input ≡ false = lt-leb _ _ h in
-        let cut : leb (length (front bs)) most_input ≡ false = lt-leb _ _ (front_long bs h) in
-        cond-false _ _ (answer_line 0 (Err (by_reader 22 0))) cut ∙ sym (cond-false _ _ _ long))
+      let long : leb (length bs) most_input ≡ false = lt-leb _ _ h in
+      let cut : leb (length (front bs)) most_input ≡ false = lt-leb _ _ (front_long bs h) in
+      cond-false _ _ (answer_line 0 (Err (by_reader 22 0))) cut ∙ sym (cond-false _ _ _ long))
 
   pub front_calls : (bs : List ℕ) → input_calls rule s (front bs) ≡ input_calls rule s bs
   unfolding input_calls
@@ -51,9 +49,9 @@ module _ (rule : Rule) (s : State) where
       by_length bs
       (λ h. ap (input_calls rule s) (front_whole bs h))
       (λ h.
-        let long : leb (length bs) most_input ≡ false = lt-leb _ _ h in
-        let cut : leb (length (front bs)) most_input ≡ false = lt-leb _ _ (front_long bs h) in
-        cond-false _ _ [] cut ∙ sym (cond-false _ _ [] long))
+      let long : leb (length bs) most_input ≡ false = lt-leb _ _ h in
+      let cut : leb (length (front bs)) most_input ≡ false = lt-leb _ _ (front_long bs h) in
+      cond-false _ _ [] cut ∙ sym (cond-false _ _ [] long))
 
   -- a whole run has done some first lines: all, or none of an input that is too long
   pub run_done : (t : State) (input : List ℕ) → t ≡ after s (input_calls rule s input) → SomeDone rule s t input

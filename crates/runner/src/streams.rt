@@ -31,9 +31,7 @@ pub fn run_streams<L: Ledger, R: TieRule, I: Read + Drop, O: Write>(
 {
     let mut bytes = Vec::new(alloc);
     // one byte more than is taken shows that an input is too long
-    input
-        .take(MOST_INPUT as u64 + 1)
-        .read_to_end(&mut bytes)?;
+    input.take(MOST_INPUT as u64 + 1).read_to_end(&mut bytes)?;
     let mut transcript = String::new(alloc);
     run(book, rule, &bytes, &mut transcript)?;
     output.write_all(transcript.as_bytes())

@@ -3,12 +3,12 @@ use Rattle.std.proofs.Common.{◌≡◌, ℕ, ◌+◌, true, false, List, ◌++�
 use Rattle.std.proofs.lemmas.Int.{to_z-of_z}
 use Rattle.std.specs.List.{flat_map}
 use Rattle.ledger.specs.Entries.{is_zero}
-use Rattle.ledger.proofs.Meanings.{row_length, row_reads}
+use Rattle.ledger.proofs.Meanings.{row_reads}
 use Rattle.transcript.specs.declared.audit.Cell.{Cell}
 use Rattle.transcript.specs.Text.{cell_text}
 use Rattle.book.specs.View.{state_of}
 use Rattle.runner.specs.Audit.{cell_at}
-use Rattle.runner.proofs.Listing.{cells_none, cells_same, text_kept, count_kept, not_zero, zero_is}
+use Rattle.runner.proofs.Listing.{row_length, cells_none, cells_same, text_kept, count_kept, not_zero, zero_is}
 use Rattle.runner.proofs.audit.write_account.Goals as goal
 use Rattle.runner.proofs.audit.write_account.Goals.{then-amount-ne0+in_ok-append, else-amount-ne0}
 

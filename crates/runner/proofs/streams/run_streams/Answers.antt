@@ -1,11 +1,10 @@
 -- The transcript of what was read is that of what the stream held. Assumes nothing.
-use Rattle.std.proofs.Common.{◌≡◌, [], string_bytes, IfSome, ◌∙◌, ap, rules}
+use Rattle.std.proofs.Common.{[], ap, rules}
 use Rattle.requests.specs.Requests.{ruled}
 use Rattle.book.specs.View.{state_of}
 use Rattle.runner.proofs.Steps.{none_done}
-use Rattle.runner.proofs.Reading.{front, read_is, run_done, written, moved}
+use Rattle.runner.proofs.Reading.{read_is, run_done, written, moved}
 use Rattle.runner.proofs.streams.run_streams.Goals as goal
-use Rattle.runner.proofs.streams.run_streams.Given as given
 use Rattle.runner.proofs.streams.run_streams.Goals.{After-write_all}
 
 pub returns-in_err-read_to_end-clause-law : goal.returns-in_err-read_to_end-clause-law
