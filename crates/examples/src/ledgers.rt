@@ -5,8 +5,7 @@ use ledger::{Balances, Entry, FractionColumn, Ledger, Leg, enter};
 use money::{MOST_AMOUNT, Minor, National, Parts};
 use register::Fault;
 use sheet::Sheet;
-use std::array;
-use std::io;
+use std::{array, io};
 
 /// The legs of 100 marks converted into euro, residue and all.
 fn conversion() -> [Leg; 6] {
@@ -90,7 +89,15 @@ pub(crate) fn show(rt: &HostRuntime) -> anyhow::Result<()> {
     let mut records = vec![in rt.alloc(); Leg::default(); 20_010]?;
     show_ledger(rt, &mut Journal::open(records.as_mut_slice()))?;
     println!(rt; "A journal of five records and one of six")?;
-    show_taking(rt, &mut Journal::open(&mut [Leg::default(); 5]), &conversion())?;
-    show_taking(rt, &mut Journal::open(&mut [Leg::default(); 6]), &conversion())?;
+    show_taking(
+        rt,
+        &mut Journal::open(&mut [Leg::default(); 5]),
+        &conversion(),
+    )?;
+    show_taking(
+        rt,
+        &mut Journal::open(&mut [Leg::default(); 6]),
+        &conversion(),
+    )?;
     Ok(())
 }

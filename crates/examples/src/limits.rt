@@ -18,7 +18,6 @@ fn exchange(source: u64, target: u64, amount: i64) -> Exchange {
     }
 }
 
-
 /// How 100 marks into euro are answered by a book over so many records.
 fn marks_over(records: &mut [Leg]) -> Option<Fault> {
     let mut book = Book::open(Journal::open(records), 1);
@@ -109,8 +108,18 @@ fn show_limit(
 /// Prints each limit of a book.
 pub(crate) fn show(rt: &HostRuntime) -> io::Result<()> {
     println!(rt; "Limits of a book, by the number of the refusal")?;
-    show_limit(rt, "marks over 5 records", marks_over(&mut [Leg::default(); 5]), 17)?;
-    show_limit(rt, "marks over 6 records", marks_over(&mut [Leg::default(); 6]), 0)?;
+    show_limit(
+        rt,
+        "marks over 5 records",
+        marks_over(&mut [Leg::default(); 5]),
+        17,
+    )?;
+    show_limit(
+        rt,
+        "marks over 6 records",
+        marks_over(&mut [Leg::default(); 6]),
+        0,
+    )?;
     show_limit(rt, "the largest amount into marks", largest_into_marks(), 9)?;
     show_limit(
         rt,
