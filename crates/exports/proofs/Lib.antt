@@ -1,2 +1,3 @@
 mod Fronts
 mod Repeated
+mod Handing
