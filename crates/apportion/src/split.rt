@@ -31,6 +31,7 @@ struct Part {
     fraction: Fraction,
 }
 
+// A place is below the number of shares of one division, which no type of its own could say more shortly.
 impl<'a, R: TieRule> Division<'a, R> {
     /// What the share at place `i` first gets: its exact part rounded down.
     #[tactic(auto, using(crate::proofs::Bounds::quotient_small), unfolding(crate::specs::Splits::quotient))]

@@ -26,6 +26,7 @@ mod sweep;
 
 pub use currency::currency_at;
 
+// `fit` stays a flag: by a rule of the project opening is never refused, and an unfit book still answers and parks.
 /// A ledger that only this book changes, with the book's mark, whether it is fit, how many slips it has given, and
 /// the docket of those whose residues no account has taken yet.
 #[derive(Drop)]

@@ -32,6 +32,9 @@ const FROM_ACCOUNT: u64 = 2;
 /// The account to which they give what is booked, and the residues.
 const TO_ACCOUNT: u64 = 3;
 
+// The C interface: numbers for currencies, amounts and refusals, a 0 where there is no transcript, and one function for
+// each ledger.
+
 /// What a conversion between the currencies of two numbers books, or below zero the number of its refusal.
 #[unsafe(no_mangle)]
 pub extern "C" fn seutmilai_convert(source: u64, target: u64, amount: i64) -> i64

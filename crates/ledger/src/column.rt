@@ -36,6 +36,7 @@ fn national(number: u64) -> Option<National>
     }
 }
 
+// Named methods for the numbers of columns, as for those of currencies.
 impl FractionColumn {
     /// The number of the column, 12 to 33.
     pub fn number(self) -> u8

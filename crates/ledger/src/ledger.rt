@@ -12,6 +12,8 @@ use register::LedgerFault;
 use std::array;
 
 /// What can be asked of a ledger. A question changes nothing.
+// Account and column stay two numbers: any two may be asked for, so a struct of both would state no fact, and each body
+// would take it apart again.
 pub trait Balances {
     /// The letter of the ledger's type.
     const KIND: char;

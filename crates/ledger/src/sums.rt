@@ -26,6 +26,8 @@ fn in_cell(leg: Leg, account: u64, column: u64) -> i64
     }
 }
 
+// Two loops, since a closure for what one leg adds would need a law on signed sums, longer than a loop.
+
 /// The legs' sum in a column.
 pub fn column_sum(legs: &[Leg], column: u64) -> i128
     ensures value { result ≡ column_sum legs.now column }

@@ -114,6 +114,8 @@ impl Route {
     }
 }
 
+// Three functions for cents, mills and minor units: each has a bound of its own, which the next step needs.
+
 /// The cents that an amount of a national currency comes to.
 fn cents_from(from: National, amount: Amount) -> Rounded
     ensures value { result ≡ rounded_to (exact_from from amount.units) (10 * rate from) }

@@ -64,6 +64,7 @@ impl National {
     }
 }
 
+// A currency has a number and a code, so each way is a method with its name: a `From` would not say which.
 impl Currency {
     /// Every currency, by its number.
     pub const ALL: [Currency; 12] = [

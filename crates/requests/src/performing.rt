@@ -20,6 +20,8 @@ use money::Minor;
 use reader::{Request, read_line};
 use register::Fault;
 
+// A book and a rule are borrowed for one call, the book to be changed: a struct of both would be made anew at each.
+
 /// Splits, and keeps the portions. A line says nothing of the fractions.
 fn split_among<L: Ledger, R: TieRule>(
     book: &mut Book<L>,

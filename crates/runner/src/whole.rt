@@ -15,7 +15,7 @@ use crate::audit::write_audit;
 use apportion::TieRule;
 use book::Book;
 use ledger::Ledger;
-use register::{Fault, ReaderCause, ReaderFault};
+use register::{ReaderCause, ReaderFault};
 use std::alloc::AllocError;
 
 /// The most bytes of an input.
@@ -38,11 +38,8 @@ pub fn run<L: Ledger, R: TieRule>(
     ensures memory { (law : Lawful (R.TieRule.tie rule.now)) → OnErr result (SomeDone (ruled law) (state_of L.Balances book.old) (state_of L.Balances book.new) input.now) }
 {
     if input.len() > MOST_INPUT {
-        let fault = ReaderFault {
-            cause: ReaderCause::InputTooLong,
-            place: 0,
-        };
-        return write_answer(transcript, 0, Err(Fault::Reader(fault)));
+        let fault = ReaderFault::from(ReaderCause::InputTooLong);
+        return write_answer(transcript, 0, Err(fault.into()));
     }
     answer_lines(book, rule, input, transcript)?;
     write_audit(book, transcript)

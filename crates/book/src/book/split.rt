@@ -17,6 +17,8 @@ use money::Minor;
 use postings::split_entry;
 use register::{BookCause, BookFault, Fault};
 
+// Portions and fractions are two lists because the caller lends two, each with a length that may be refused.
+
 /// How long the lists are that a caller lends.
 #[derive(Clone, Copy)]
 struct Lent {

@@ -86,6 +86,7 @@ impl Docket {
     pub fn restate(&mut self, number: u64, standing: Standing)
         ensures { records_of self.new ≡ restated number standing (records_of self.old) }
     {
+        // by place: of a list that is written through `iter_mut().find(..)` a proof knows nothing
         if let Some(i) = self.place_of(number) {
             self.records[i].standing = standing;
         }

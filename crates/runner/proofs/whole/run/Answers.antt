@@ -1,8 +1,11 @@
 -- An input that is too long, and one whose lines are done. Assumes nothing.
-use Rattle.std.proofs.Common.{◌≡◌, ℕ, List, [], ◌++◌, length, Err, string_bytes, sym, refl, ap, ◌∙◌, append_assoc, arith}
+use Rattle.std.proofs.Common.{◌≡◌, ℕ, List, [], ◌++◌, length, Err, string_bytes, sym, refl, ap, ◌∙◌, append_assoc, arith, rules}
 use Rattle.std.proofs.lemmas.Result.{err_from_is_err_and, IfOk-weaker}
 use Rattle.std.proofs.lemmas.Bool.{le-leb, lt-leb, cond-true, cond-false}
-use Rattle.register.specs.Register.{by_reader}
+use Rattle.register.specs.declared.cause.ReaderCause.TheVariants.{InputTooLong}
+use Rattle.register.specs.declared.fault.Fault.{Fault}
+use Rattle.register.specs.declared.fault.Fault.TheVariants.{Reader}
+use Rattle.register.specs.Register.{by_reader, registered}
 use Rattle.apportion.specs.Ties.{Lawful}
 use Rattle.model.specs.History.{after}
 use Rattle.model.proofs.Runs.{conserved_through}
@@ -23,11 +26,13 @@ returns-then-input-gt-MOST_INPUT g c =
     let tie = g.R.TieRule.tie c.args.rule.now in
     let input = c.args.input.now in
     let r = c.write_answer.result in
+    let before = string_bytes c.args.transcript.now in
+    let is : c.into.result ≡ Reader (record { cause = InputTooLong; place = 0 }) = search rules in
     let long = lt-leb (length input) most_input c.if-input-gt-MOST_INPUT.true in
     let none : (law : Lawful tie) → input_calls (ruled law) s input ≡ [] = λ law. cond-false _ (lines_calls (ruled law) s (lines_of input)) [] long in
     let state : (law : Lawful tie) → s ≡ after s (input_calls (ruled law) s input) = λ law. ap (after s) (sym (none law)) in
     record {
-      transcript = λ law. IfOk-weaker r _ _ (λ _ e. e ∙ ap (λ (bs : List ℕ). string_bytes c.args.transcript.now ++ bs) (sym (cond-false _ _ (answer_line 0 (Err (by_reader 22 0))) long))) c.write_answer.ensures.text;
+      transcript = λ law. IfOk-weaker r _ _ (λ _ e. e ∙ ap (λ (f : Fault). before ++ answer_line 0 (Err (registered f))) is ∙ ap (λ (bs : List ℕ). before ++ bs) (sym (cond-false _ _ (answer_line 0 (Err (by_reader 22 0))) long))) c.write_answer.ensures.text;
       state = λ law. made_anyway r (state law);
       law = λ law. made_anyway r (conserved_through s (input_calls (ruled law) s input) s (state law));
       parked = λ law. input_leaves_none_out (ruled law) s input;
