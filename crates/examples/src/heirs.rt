@@ -65,6 +65,7 @@ fn show_split<R: TieRule>(
     shares: &[Share],
 ) -> io::Result<()> {
     println!(rt; "  {} by the {name}", amount.0)?;
+    // two lists, which a split writes to
     let mut portions = [Minor(0); MOST_SHARES];
     let mut fractions = [Fraction(0); MOST_SHARES];
     if let Err(fault) = apportion(rule, amount, shares, &mut portions, &mut fractions) {

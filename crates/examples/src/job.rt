@@ -103,6 +103,7 @@ fn show_split<L: Ledger>(rt: &HostRuntime, book: &mut Book<L>, amount: i64) -> i
         currency: EUR,
         amount: Minor(amount),
     };
+    // two lists, which a split writes to
     let mut portions = [Minor(0); 3];
     let mut fractions = [Fraction(0); 3];
     match book.split(&SmallerPlace, bill, &GUESTS, &mut portions, &mut fractions) {

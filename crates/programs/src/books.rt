@@ -16,6 +16,8 @@ pub const RECORDS: usize = 4_096;
 /// What the book's slips bear. None leaves the engine, so any mark does.
 const MARK: u32 = 1;
 
+// Two functions, since a sheet has a room beside its list and a journal has none.
+
 /// A book on a sheet.
 pub fn open_sheet<'a>(cells: &'a mut [i64; SHEET_CELLS]) -> Book<Sheet<'a>>
     ensures { sheet_state result ≡ sheet_book }

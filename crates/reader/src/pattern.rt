@@ -15,6 +15,7 @@ use model::{Division, Exchange, Posting};
 use register::{ReaderCause, ReaderFault};
 
 /// The first word of a line.
+// an enum and a match, and no closures: the patterns of lines are a closed list
 #[derive(Clone, Copy)]
 enum Verb {
     Post,

@@ -32,6 +32,7 @@ fn split_among<L: Ledger, R: TieRule>(
     ensures value { (law : Lawful (R.TieRule.tie rule.now)) → given_by numbers (answer result) ≡ performed (ruled law) (state_of L.Balances book.old) (split division shares.now) }
     ensures state { (law : Lawful (R.TieRule.tie rule.now)) → state_of L.Balances book.new ≡ after (state_of L.Balances book.old) (request_calls (ruled law) (state_of L.Balances book.old) (split division shares.now)) }
 {
+    // two lists, which a split writes to
     let mut items = [Minor(0); MOST_SHARES];
     let mut fractions = [Fraction(0); MOST_SHARES];
     book.split(rule, division, shares, &mut items, &mut fractions)?;

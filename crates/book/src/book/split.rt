@@ -17,7 +17,8 @@ use money::Minor;
 use postings::split_entry;
 use register::{BookCause, BookFault, Fault};
 
-// Portions and fractions are two lists because the caller lends two, each with a length that may be refused.
+// Portions and fractions are two lists because the caller lends two, each with a length that may be refused. Rule, division
+// and shares are handed on as the caller gave them, each borrowed for the call.
 
 /// How long the lists are that a caller lends.
 #[derive(Clone, Copy)]
