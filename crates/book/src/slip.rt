@@ -38,7 +38,8 @@ impl Slip {
         self.number
     }
 
-    /// Ends the slip. Its number is parked and answered; 0, and nothing moves, if the slip is not the book's.
+    /// Ends the slip. Its number is parked and answered; 0, and nothing moves, if the slip is not the book's. That a parking
+    /// always answers a number is a rule of the project.
     pub fn park<L: Ledger>(self, book: &mut Book<L>) -> u32
         ensures step { (Ok result, state_of L.Balances book.new) ≡ step (state_of L.Balances book.old) (park self.mark self.number) }
         ensures law { StillConserved (state_of L.Balances book.old) (park self.mark self.number) (Ok result) (state_of L.Balances book.new) }

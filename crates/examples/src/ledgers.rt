@@ -4,7 +4,7 @@ use journal::Journal;
 use ledger::{Balances, Entry, FractionColumn, Ledger, Leg, enter};
 use money::{MOST_AMOUNT, Minor, National, Parts};
 use register::Fault;
-use sheet::Sheet;
+use sheet::{SHEET_CELLS, Sheet};
 use std::{array, io};
 
 /// The legs of 100 marks converted into euro, residue and all.
@@ -84,7 +84,7 @@ fn show_ledger<L: Ledger>(rt: &HostRuntime, ledger: &mut L) -> io::Result<()> {
 /// Shows a sheet and a journal, and a journal of five records and one of six.
 pub(crate) fn show(rt: &HostRuntime) -> anyhow::Result<()> {
     println!(rt; "The same entries into a sheet and a journal")?;
-    let mut cells = vec![in rt.alloc(); 0i64; 4_352]?;
+    let mut cells = vec![in rt.alloc(); 0i64; SHEET_CELLS]?;
     show_ledger(rt, &mut Sheet::open(cells.as_mut_slice(), 20_010))?;
     let mut records = vec![in rt.alloc(); Leg::default(); 20_010]?;
     show_ledger(rt, &mut Journal::open(records.as_mut_slice()))?;

@@ -34,7 +34,7 @@ pub(crate) fn convert_rounds<L: Ledger>(book: &mut Book<L>, exchange: Exchange, 
 pub(crate) fn line_rounds<L: Ledger>(book: &mut Book<L>, line: &[u8], rounds: u64)
     ensures { (law : Lawful by_place) → state_of L.Balances book.new ≡ line_rounds (ruled law) (state_of L.Balances book.old) line.now rounds }
 {
-    // a match, since of the branch that an `if let` does not take a proof knows nothing
+    // a match, whose branches the proof names; those of an `if let` that are not taken have no name
     match read_line(line) {
         Ok(Some(request)) => {
             for _round in 0..rounds {

@@ -12,8 +12,8 @@ use register::LedgerFault;
 use std::array;
 
 /// What can be asked of a ledger. A question changes nothing.
-// Account and column stay two numbers: any two may be asked for, so a struct of both would state no fact, and each body
-// would take it apart again.
+// Account and column stay two numbers, of which any may be asked: `cell(Cell { account, column })` would be no plainer than
+// `cell(account, column)`, and each body would take it apart. A 0 outside the accounts and columns is the rule of a ledger.
 pub trait Balances {
     /// The letter of the ledger's type.
     const KIND: char;
@@ -43,7 +43,7 @@ pub trait Balances {
         array::from_fn(|column| self.cell(account, column as u64))
     }
 
-    // no body in the trait for the limits: another ledger may have its own
+    // no body in the trait for the limits: it would have to give what the meaning of any ledger says
     /// The least that the cell may hold; 0 outside the accounts and columns.
     fn floor(&self, account: u64, column: u64) -> i64
         ensures value { result ≡ (meaning self.now).floor account column }

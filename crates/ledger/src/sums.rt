@@ -26,7 +26,7 @@ fn in_cell(leg: Leg, account: u64, column: u64) -> i64
     }
 }
 
-// Two loops, since a closure for what one leg adds would need a law on signed sums, longer than a loop.
+// Loops, since of a `sum` of signed numbers a proof gets no bound; and two, since one over a closure would need a law on it.
 
 /// The legs' sum in a column.
 pub fn column_sum(legs: &[Leg], column: u64) -> i128

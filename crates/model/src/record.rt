@@ -11,7 +11,8 @@ pub enum Standing {
     Parked,
 }
 
-/// What the docket keeps of a conversion: the number of its slip, its currencies, and both residues, 0 where absent.
+/// What the docket keeps of a conversion: the number of its slip, its currencies, and both residues, 0 where absent, as an
+/// audit has them.
 #[derive(Clone, Copy, Default)]
 pub struct Record {
     pub number: u32,

@@ -20,7 +20,7 @@ pub struct Exchange {
     pub amount: Minor,
 }
 
-/// What a split takes, and from where.
+/// What a split takes, and from where. (The fields of a posting, which is a leg and may be a credit.)
 #[derive(Clone, Copy)]
 pub struct Division {
     pub account: u64,

@@ -8,7 +8,7 @@ use register::BookCause;
 /// T: the most minor units that an amount may have.
 pub const MOST_AMOUNT: i64 = 99_999_999_999;
 
-/// From 1 to `MOST_AMOUNT` minor units.
+/// An amount that can be converted.
 #[derive(Clone, Copy)]
 pub(crate) struct Amount {
     pub units: u64,

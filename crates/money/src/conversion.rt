@@ -87,7 +87,7 @@ impl Route {
     {
         match self {
             Route::IntoEuro(from) => {
-                let cents = cents_from(from, amount);
+                let cents = Rounded::nearest(amount.units * from.parts(), 10 * from.rate());
                 Conversion::IntoEuro {
                     booked: Minor(cents.whole as i64),
                     euro: cents.residue,
@@ -112,16 +112,6 @@ impl Route {
             }
         }
     }
-}
-
-// Three functions for cents, mills and minor units: each has a bound of its own, which the next step needs.
-
-/// The cents that an amount of a national currency comes to.
-fn cents_from(from: National, amount: Amount) -> Rounded
-    ensures value { result ≡ rounded_to (exact_from from amount.units) (10 * rate from) }
-    ensures small { result.whole < 2 ^ 63 }
-{
-    Rounded::nearest(amount.units * from.parts(), 10 * from.rate())
 }
 
 /// The mills that an amount of a national currency comes to on its way into another.

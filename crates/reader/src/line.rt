@@ -5,8 +5,7 @@ ghost use Rattle.reader.specs.Lines.{Cut, lines_of};
 
 use crate::split::split_once;
 
-/// The first line of an input, and what follows the end of that line; both are parts of the input. A runner goes
-/// from line to line while anything is left.
+/// The first line of an input, and what follows the end of that line; both are parts of the input.
 pub fn cut_line(input: &[u8]) -> (&[u8], &[u8])
     ensures line { result.0.now ≡ take (before newline input.now) input.now }
     ensures rest { result.1.now ≡ drop (before newline input.now + 1) input.now }

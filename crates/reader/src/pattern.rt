@@ -127,19 +127,18 @@ fn read_two_numbers(words: &[Word<'_>]) -> Result<(u64, u64), ReaderFault>
 }
 
 /// Reads the words after the first by the pattern that it asks for.
-fn read_as(verb: Option<Verb>, words: &[Word<'_>]) -> Result<Request, ReaderFault>
+fn read_as(verb: Verb, words: &[Word<'_>]) -> Result<Request, ReaderFault>
     requires { length words.now < most_words }
-    ensures { given_by asked (reader_answer result) ≡ read_as verb (map view words.now) }
+    ensures { given_by asked (reader_answer result) ≡ read_as (Some verb) (map view words.now) }
 {
     match verb {
-        None => Err(UNKNOWN_PATTERN),
-        Some(Verb::Post) => read_post(words),
-        Some(Verb::Conv) => read_conv(words),
-        Some(Verb::Split) => read_split(words),
-        Some(Verb::Carry) => {
+        Verb::Post => read_post(words),
+        Verb::Conv => read_conv(words),
+        Verb::Split => read_split(words),
+        Verb::Carry => {
             read_two_numbers(words).map(|(number, account)| Request::Carry { number, account })
         }
-        Some(Verb::Sweep) => {
+        Verb::Sweep => {
             read_two_numbers(words).map(|(account, column)| Request::Sweep { account, column })
         }
     }
@@ -152,7 +151,8 @@ fn read_words(words: &[Word<'_>]) -> Result<Option<Request>, ReaderFault>
     let [first, rest @ ..] = words else {
         return Ok(None);
     };
-    let request = read_as(read_verb(first.text()), rest)?;
+    let verb = read_verb(first.text()).ok_or(UNKNOWN_PATTERN)?;
+    let request = read_as(verb, rest)?;
     Ok(Some(request))
 }
 

@@ -21,7 +21,8 @@ pub(crate) struct Span<'a> {
     text: &'a [u8],
 }
 
-/// A word of a line, and what it says. A name is what is nothing else.
+/// A word of a line, and what it says. A name is what is nothing else. A rule of the project: a word is an enum of cases
+/// that borrow the line.
 #[derive(Clone, Copy)]
 pub(crate) enum Word<'a> {
     Name(Span<'a>),

@@ -6,7 +6,7 @@ ghost use Rattle.register.specs.Register.{registered, part_text, refusal_text};
 use crate::cause::{BookCause, LedgerCause, ReaderCause};
 use std::fmt;
 
-/// Why a part refuses, and where.
+/// Why a part refuses, and where. A place of 0 is what the register has, and a transcript writes, where there is none.
 #[derive(Clone, Copy)]
 pub struct Placed<C> {
     pub cause: C,

@@ -61,6 +61,25 @@ module _ (rule : Rule) (s : State) where
       (λ h. all_stopped rule s input [] t (lines_text rule 1 s (lines_of input)) (record { state = e ∙ ap (after s) (cond-true _ _ [] (le-leb _ _ h)); text = refl }))
       (λ h. subst (λ z. SomeDone rule s z input) (sym (e ∙ ap (after s) (cond-false _ _ [] (lt-leb _ _ h)))) (none_done rule s input))
 
+  -- so it is where only the front was read
+  pub front_done : (t : State) (bs items : List ℕ) → items ≡ front bs → (most_input < length items → t ≡ s) → SomeDone rule s t items → SomeDone rule s t bs
+  front_done t bs items e unmoved d =
+      by_length bs
+      (λ h. subst (λ xs. SomeDone rule s t xs) (e ∙ front_whole bs h) d)
+      (λ h. subst (λ z. SomeDone rule s z bs) (sym (unmoved (omega (arith, ap length e, front_long bs h)))) (none_done rule s bs))
+
+  pub held_done : (t : State) (known : Option (List ℕ)) (items : List ℕ) → IfSome known (λ bs. items ≡ front bs) → (most_input < length items → t ≡ s) → SomeDone rule s t items → IfSome known (λ bs. SomeDone rule s t bs)
+  held_done t None items e unmoved d = tt
+  held_done t (Some bs) items e unmoved d = front_done t bs items e unmoved d
+
+  pub same_read : (known : Option (List ℕ)) (items read : List ℕ) → read ≡ items → IfSome known (λ bs. items ≡ front bs) → IfSome known (λ bs. read ≡ front bs)
+  same_read None items read e i = tt
+  same_read (Some bs) items read e i = e ∙ i
+
+  pub nothing_done : (known : Option (List ℕ)) → IfSome known (λ bs. SomeDone rule s s bs)
+  nothing_done None = tt
+  nothing_done (Some bs) = none_done rule s bs
+
   -- what was read is the front of what the stream held
   pub read_is : (held known : Option (List ℕ)) (n : ℕ) (start items : List ℕ) → held ≡ known → n ≡ most_input + 1 → start ≡ [] → IfSome (option_map (take n) held) (λ xs. items ≡ start ++ xs) → IfSome known (λ bs. items ≡ front bs)
   read_is held None n start items h l z e = tt

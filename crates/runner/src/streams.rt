@@ -16,8 +16,8 @@ use ledger::Ledger;
 use std::alloc::Global;
 use std::io::{self, Read, Write};
 
-/// Reads an input, carries out its lines on a book, and writes the transcript. No more is read than shows that an input
-/// is too long. If a read or memory fails, nothing is written; whatever fails, some first lines are done.
+/// Reads an input, carries out its lines on a book, and writes the transcript. Whatever fails, a read, memory or a write,
+/// some first lines of the input are done, and the law holds of them.
 pub fn run_streams<L: Ledger, R: TieRule, I: Read + Drop, O: Write>(
     alloc: Global,
     book: &mut Book<L>,
@@ -27,6 +27,7 @@ pub fn run_streams<L: Ledger, R: TieRule, I: Read + Drop, O: Write>(
 ) -> io::Result<()>
     ensures transcript { (law : Lawful (R.TieRule.tie rule.now)) → OnOk result (IfSome (I.Read.remaining input) (λ bytes. Appends (O.Write.contents output.old) (O.Write.contents output.new) (transcript_of (ruled law) (state_of L.Balances book.old) bytes))) }
     ensures state { (law : Lawful (R.TieRule.tie rule.now)) → OnOk result (IfSome (I.Read.remaining input) (λ bytes. state_of L.Balances book.new ≡ after (state_of L.Balances book.old) (input_calls (ruled law) (state_of L.Balances book.old) bytes))) }
+    ensures done { (law : Lawful (R.TieRule.tie rule.now)) → IfSome (I.Read.remaining input) (λ bytes. SomeDone (ruled law) (state_of L.Balances book.old) (state_of L.Balances book.new) bytes) }
     ensures law { (law : Lawful (R.TieRule.tie rule.now)) → (bytes : List ℕ) × SomeDone (ruled law) (state_of L.Balances book.old) (state_of L.Balances book.new) bytes }
 {
     let mut bytes = Vec::new(alloc);

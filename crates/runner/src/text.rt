@@ -11,8 +11,5 @@ pub(crate) fn append<D: fmt::Display + Drop>(
 ) -> Result<(), AllocError>
     ensures { OnOk result (IfSome (D.Display.output value) (λ bs. string_bytes transcript.new ≡ string_bytes transcript.old ++ bs)) }
 {
-    match transcript.write(value) {
-        Ok(()) => Ok(()),
-        Err(_) => Err(AllocError),
-    }
+    write!(transcript, "{value}")
 }

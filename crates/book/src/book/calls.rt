@@ -16,6 +16,8 @@ use model::{Division, Exchange, Posting};
 use money::Minor;
 use register::Fault;
 
+// Each hands on to a function that bears the step alone, from which the law follows once. The step and the law of a split stand
+// for every proof that the rule is lawful, since a clause cannot cite the law of a trait.
 impl<L: Ledger> Book<L> {
     /// Posts legs that balance in every currency.
     pub fn post(&mut self, postings: &[Posting]) -> Result<(), Fault>

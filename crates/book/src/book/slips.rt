@@ -12,8 +12,8 @@ use ledger::Ledger;
 use model::{Record, Standing};
 use register::{BookCause, BookFault};
 
-/// What a call does with a slip: a carry and a parking end it, and a take-up gives it again. By a rule of the project
-/// a record's standing and the call are matched together, in one place.
+/// What a call does with a slip: a carry and a parking end it, and a take-up gives it again. A rule of the project: a
+/// record's standing and the call are matched together, in one place, so that a further standing is one more row there.
 #[derive(Clone, Copy)]
 pub(super) enum SlipCall {
     End,

@@ -3,7 +3,7 @@ use Rattle.std.proofs.Common.{[], ap, rules}
 use Rattle.requests.specs.Requests.{ruled}
 use Rattle.book.specs.View.{state_of}
 use Rattle.runner.proofs.Steps.{none_done}
-use Rattle.runner.proofs.Reading.{read_is, run_done, written, moved}
+use Rattle.runner.proofs.Reading.{read_is, run_done, written, moved, held_done, nothing_done, same_read}
 use Rattle.runner.proofs.streams.run_streams.Goals as goal
 use Rattle.runner.proofs.streams.run_streams.Goals.{After-write_all}
 
@@ -27,3 +27,20 @@ returns-clause-state g c law =
 
 pub returns-clause-law : goal.returns-clause-law
 returns-clause-law g c law = (_, run_done (ruled law) _ _ _ (c.in_ok-run.ensures.state law))
+
+pub returns-in_err-read_to_end-clause-done : goal.returns-in_err-read_to_end-clause-done
+returns-in_err-read_to_end-clause-done g c law = nothing_done (ruled law) _ _
+
+pub returns-in_err-run-clause-done : goal.returns-in_err-run-clause-done
+returns-in_err-run-clause-done g c law =
+    let s = state_of g.L.Balances c.args.book.now in
+    held_done (ruled law) s _ _ _
+    (same_read (ruled law) s _ _ c.deref.result.now c.deref.ensures.value (read_is (ruled law) s _ _ _ _ _ (ap g.I.Read.remaining c.take.ensures.inner) c.take.ensures.limit c.new-bytes.ensures.items c.in_ok-read_to_end.ensures.bytes))
+    c.in_err-run.ensures.unmoved (c.in_err-run.ensures.memory law)
+
+pub returns-clause-done : goal.returns-clause-done
+returns-clause-done g c law =
+    let s = state_of g.L.Balances c.args.book.now in
+    held_done (ruled law) s _ _ _
+    (same_read (ruled law) s _ _ c.deref.result.now c.deref.ensures.value (read_is (ruled law) s _ _ _ _ _ (ap g.I.Read.remaining c.take.ensures.inner) c.take.ensures.limit c.new-bytes.ensures.items c.in_ok-read_to_end.ensures.bytes))
+    c.in_ok-run.ensures.unmoved (run_done (ruled law) _ _ _ (c.in_ok-run.ensures.state law))
