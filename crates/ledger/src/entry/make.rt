@@ -32,6 +32,19 @@ impl Entry {
         Some(Entry { legs: stored })
     }
 
+    /// Puts the entry of these legs in the place of this one and says yes, exactly if they make one; else leaves the empty
+    /// entry. By a rule of the project a making leaves an entry in the caller's place, whatever it says.
+    pub fn make(&mut self, legs: &[Leg]) -> bool
+        ensures tells { Decides result (EntryLegs legs.now) }
+        ensures value { result ≡ is_entry legs.now }
+        ensures holds { legs_of self.new ≡ (if result then legs.now else []) }
+    {
+        let made = Entry::new(legs);
+        let says = made.is_some();
+        *self = made.unwrap_or_else(Entry::empty);
+        says
+    }
+
     /// The legs, in order. They make an entry.
     pub fn legs(&self) -> &[Leg]
         ensures value { result.now ≡ legs_of self.now }
