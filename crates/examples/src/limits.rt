@@ -18,21 +18,28 @@ fn exchange(source: u64, target: u64, amount: i64) -> Exchange {
     }
 }
 
+/// What an act on a book over so many records answers.
+fn on_book<T, F: FnOnce(&mut Book<Journal<'_>>) -> T>(records: &mut [Leg], act: F) -> T
+    requires { F.IsAlwaysCallable act }
+{
+    let mut book = Book::open(Journal::open(records), 1);
+    let answer = act(&mut book);
+    let _journal = book.close();
+    answer
+}
+
 /// How 100 marks into euro are answered by a book over so many records.
 fn marks_over(records: &mut [Leg]) -> Option<Fault> {
-    let mut book = Book::open(Journal::open(records), 1);
-    let refused = convert_and_park(&mut book, exchange(2, 0, 10_000)).err();
-    let _journal = book.close();
-    refused
+    on_book(records, |book| {
+        convert_and_park(book, exchange(2, 0, 10_000)).err()
+    })
 }
 
 /// How the largest amount of euro into marks is answered.
 fn largest_into_marks() -> Option<Fault> {
-    let mut records = [Leg::default(); 8];
-    let mut book = Book::open(Journal::open(&mut records), 1);
-    let refused = convert_and_park(&mut book, exchange(0, 2, MOST_AMOUNT)).err();
-    let _journal = book.close();
-    refused
+    on_book(&mut [Leg::default(); 8], |book| {
+        convert_and_park(book, exchange(0, 2, MOST_AMOUNT)).err()
+    })
 }
 
 /// Converts so often, carrying nothing, and answers the last refusal, if the last conversion was refused.
@@ -46,26 +53,27 @@ fn convert_often<L: Ledger>(book: &mut Book<L>, times: u32) -> Option<Fault> {
 
 /// How the last of so many conversions is answered if nothing is carried.
 fn nothing_carried(times: u32) -> Option<Fault> {
-    let mut records = [Leg::default(); 500];
-    let mut book = Book::open(Journal::open(&mut records), 1);
-    let refused = convert_often(&mut book, times);
-    let _journal = book.close();
-    refused
+    on_book(
+        &mut [Leg::default(); 500],
+        |book| convert_often(book, times),
+    )
 }
 
-/// Carries so many slips of nine lire to account 40 and sweeps: the refusal, and what stays in the column.
-fn sweep_after(slips: u32) -> (Option<Fault>, i64) {
-    let mut records = [Leg::default(); 100];
-    let mut book = Book::open(Journal::open(&mut records), 1);
+/// Carries so many slips of nine lire to account 40.
+fn carry_often<L: Ledger>(book: &mut Book<L>, slips: u32) {
     for _ in 0..slips {
-        if let Ok((_, number)) = convert_and_park(&mut book, exchange(6, 0, 9)) {
-            let _ = carry_number(&mut book, u64::from(number), 40);
+        if let Ok((_, number)) = convert_and_park(book, exchange(6, 0, 9)) {
+            let _ = carry_number(book, u64::from(number), 40);
         }
     }
-    let refused = book.sweep(40, 17).err();
-    let stays = book.cell(40, 17);
-    let _journal = book.close();
-    (refused, stays)
+}
+
+/// Sweeps account 40 after so many slips of nine lire: the refusal, and what stays in the column.
+fn sweep_after(slips: u32) -> (Option<Fault>, i64) {
+    on_book(&mut [Leg::default(); 100], |book| {
+        carry_often(book, slips);
+        (book.sweep(40, 17).err(), book.cell(40, 17))
+    })
 }
 
 /// How a book answers a slip of another.
