@@ -8,6 +8,7 @@ pub struct Share {
 }
 
 /// What a tie rule may look at: a share and its place in the list, from 0.
+// not a pair of both, so that a rule reads `a.weight`
 #[derive(Clone, Copy)]
 pub struct Candidate {
     pub account: u64,

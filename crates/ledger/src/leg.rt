@@ -6,15 +6,17 @@ ghost use Rattle.ledger.specs.Entries.{in_range};
 ghost use Rattle.ledger.specs.Legs.{leg};
 
 use crate::column::FractionColumn;
+use crate::limits::{ACCOUNTS, COLUMNS};
 use money::{Currency, MOST_AMOUNT, Minor, Parts};
 
 /// The last account.
-pub const MOST_ACCOUNT: u8 = 127;
+pub const MOST_ACCOUNT: u8 = (ACCOUNTS - 1) as u8;
 
 /// The last column.
-pub const MOST_COLUMN: u8 = 33;
+pub const MOST_COLUMN: u8 = (COLUMNS - 1) as u8;
 
 /// A cell, by account and column, and what it grows by: plus is debit.
+// numbers and no `Column`: a list of records that a caller lends may hold any
 #[derive(Clone, Copy, Default)]
 pub struct Leg {
     pub account: u8,

@@ -9,7 +9,7 @@ pub const ACCOUNTS: u64 = 128;
 pub const COLUMNS: u64 = 34;
 
 /// How many cells an account has: one for each column.
-pub const ROW_CELLS: usize = 34;
+pub const ROW_CELLS: usize = COLUMNS as usize;
 
 /// How far a cell may go from zero, either way.
 pub const MOST_HELD: i64 = 1_000_000_000_000_000;

@@ -19,6 +19,7 @@ pub type ReaderFault = Placed<ReaderCause>;
 /// A refusal of the book. The place is a leg or a share, from 1, a currency's number, or 0.
 pub type BookFault = Placed<BookCause>;
 
+// not `Placed`, whose faults have no height
 /// A refusal of a ledger. The place is a leg, from 1, or 0; the height says how many ledgers stand below
 /// the one that refuses.
 #[derive(Clone, Copy)]

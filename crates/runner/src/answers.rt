@@ -21,6 +21,7 @@ use std::alloc::AllocError;
 use transcript::{Amounts, Answer, Line};
 
 /// A reply in the words of a transcript.
+// two enums: a reply owns its portions, an answer borrows them and may be a refusal
 fn replied(reply: &Reply) -> Answer<'_>
     ensures { answer_text result ≡ said_text (Ok (numbers reply.now)) }
 {

@@ -13,6 +13,8 @@ use model::{Audit, Record};
 use std::alloc::AllocError;
 use transcript::{Cell, End, Heading, Open};
 
+// Book and transcript are both borrowed for the time of a run: a struct of both would be made anew at each step.
+
 /// Writes the cells of an account that are not zero, by column, and answers how many.
 fn write_account<L: Ledger>(
     book: &Book<L>,
@@ -33,6 +35,7 @@ fn write_account<L: Ledger>(
                 amount: *amount,
             };
             append(transcript, cell)?;
+            // counts what was written, which may fail on the way
             cells += 1;
         }
     }

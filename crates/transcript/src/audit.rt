@@ -51,6 +51,7 @@ impl fmt::Display for Open {
         let to = self.record.to.number();
         let euro = self.record.euro.0;
         let national = self.record.national.0;
+        // two texts: with the letter as a value of its own the proof of the line did not close
         match self.record.standing {
             Standing::Out => write!(f, "open {number} o {from} {to} {euro} {national}\n"),
             Standing::Parked => write!(f, "open {number} p {from} {to} {euro} {national}\n"),
