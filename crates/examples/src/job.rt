@@ -35,6 +35,8 @@ const GUESTS: [Share; 3] = [
     },
 ];
 
+// The runtime and the book come down from `show`, each borrowed for one call: a struct of both would be no plainer.
+
 fn show_posting<L: Ledger>(
     rt: &HostRuntime,
     book: &mut Book<L>,
