@@ -73,18 +73,24 @@ def normal(code):
     return re.sub(r"\s+", " ", re.sub(r"[A-Za-z_]\w*", name, code)).strip()
 
 
+def say_shared(point, groups, least):
+    """Each place of a group that has at least so many, with how many they are where its words say {count}."""
+    for group in groups.values():
+        if len(group) >= least:
+            for path, line, what in group:
+                say(point, path, line, what.replace("{count}", str(len(group))))
+
+
 def point_2():
     groups = collections.defaultdict(list)
     for path, text in sources():
         for line, name, _, signature, _, body in functions(text):
             if body.strip() and len(re.findall(r"\w+", body)) > 3:
-                groups[normal(signature + "{" + body)].append((path, line, "fn " + name))
+                groups[normal(signature + "{" + body)].append((path, line, "one of {count} alike: fn " + name))
         for found in re.finditer(r"^(?:pub )?(struct \w+[^{;]*\{[^}]*\}|const \w+: [^;]*;)", text, re.M):
-            groups[normal(found.group(1))].append((path, text[: found.start()].count("\n") + 1, found.group(1).split("\n")[0]))
-    for group in groups.values():
-        if len(group) > 1:
-            for path, line, what in group:
-                say(2, path, line, f"one of {len(group)} alike: {what}")
+            head = found.group(1).split("\n")[0]
+            groups[normal(found.group(1))].append((path, text[: found.start()].count("\n") + 1, "one of {count} alike: " + head))
+    say_shared(2, groups, 2)
 
 
 def point_3():
@@ -110,20 +116,14 @@ def point_5():
             for clause in clauses:
                 if clause.startswith("requires"):
                     fact = re.sub(r"^requires( \w+)? \{ | \}$", "", clause)
-                    facts[crate, fact].append((path, line, name))
+                    facts[crate, fact].append((path, line, f"fn {name} requires {fact}"))
             inside = re.search(r"\((.*)\)", re.sub(r"\s+", " ", signature))
             given = re.findall(r"(\w+): ([^,]+?)(?:,|$)", inside.group(1)) if inside else []
             for i, first in enumerate(given):
                 for second in given[i + 1 :]:
-                    together[crate, first, second].append((path, line, name))
-    for (crate, fact), places in facts.items():
-        if len(places) > 2:
-            for path, line, name in places:
-                say(5, path, line, f"fn {name} requires {fact}")
-    for (crate, first, second), places in together.items():
-        if len(places) > 2:
-            for path, line, name in places:
-                say(5, path, line, f"fn {name} takes {first[0]} and {second[0]}")
+                    together[crate, first, second].append((path, line, f"fn {name} takes {first[0]} and {second[0]}"))
+    say_shared(5, facts, 3)
+    say_shared(5, together, 3)
 
 
 def point_6():
