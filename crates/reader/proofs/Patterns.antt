@@ -1,5 +1,5 @@
 -- A line's words, read by its pattern. Assumes nothing.
-use Rattle.std.proofs.Common.{◌≡◌, ℕ, ◌<◌, ◌≤◌, leb, List, ◌++◌, map, length, Ok, Err, Result, sym, ap, ◌∙◌, arith}
+use Rattle.std.proofs.Common.{◌≡◌, ℕ, ◌<◌, ◌≤◌, leb, List, [], ◌∷◌, ◌++◌, map, length, None, Ok, Err, Result, sym, refl, ap, ◌∙◌, arith}
 use Rattle.std.proofs.lemmas.List.{length-map}
 use Rattle.std.proofs.lemmas.Bool.{lt-leb, le-leb, cond-false, cond-true}
 use Rattle.reader.specs.declared.word.Word.{Word}
@@ -24,3 +24,8 @@ line_read line words e few =
 pub line_long : (line : List ℕ) → most_words < length (words_of line) → Err unknown_pattern ≡ read_line line
 unfolding read_line
 line_long line many = sym (cond-false (leb (length (words_of line)) most_words) _ (Err unknown_pattern) (lt-leb _ most_words many))
+
+pub line_empty : (line : List ℕ) → length line ≡ 0 → Ok None ≡ read_line line
+unfolding read_line
+line_empty [] none = refl
+line_empty (b ∷ bs) none = absurd (omega arith)

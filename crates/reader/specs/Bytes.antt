@@ -18,6 +18,11 @@ abbrev pub before : ℕ → List ℕ → ℕ
 before s [] = 0
 before s (b ∷ bs) = cond (b == s) 0 (suc (before s bs))
 
+-- how many bytes s stand at the front
+abbrev pub leading : ℕ → List ℕ → ℕ
+leading s [] = 0
+leading s (b ∷ bs) = cond (b == s) (suc (leading s bs)) 0
+
 -- there is a byte s: the front stands before the first, and the back follows it
 pub record Parted (s : ℕ) (bs front back : List ℕ) : Type 0 where
   pub found : before s bs < length bs

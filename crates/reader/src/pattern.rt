@@ -7,7 +7,7 @@ ghost use Rattle.reader.specs.Limits.{most_words, most_pairs};
 ghost use Rattle.reader.specs.Requests.{asked, listed, given_by, verb_of, one_posting, shares_of, two_numbers, read_as, read_words, read_line};
 ghost use Rattle.reader.specs.Writing.{Answers};
 
-use crate::request::{MOST_PAIRS, Request};
+use crate::request::{MOST_PAIRS, MOST_POSTINGS, MOST_WORDS, Request};
 use crate::word::{Word, split_words};
 use apportion::Share;
 use arrayvec::ArrayVec;
@@ -66,6 +66,8 @@ fn read_post(words: &[Word<'_>]) -> Result<Request, ReaderFault>
     if words.len() % 3 != 0 {
         return Err(UNKNOWN_PATTERN);
     }
+    // room for the postings of a line of the most words, and for no more
+    prove!(MOST_POSTINGS == (MOST_WORDS - 1) / 3);
     let mut postings = ArrayVec::new();
     for triple in words.chunks_exact(3) {
         postings.push(read_posting(triple)?);
@@ -92,6 +94,8 @@ fn read_shares(words: &[Word<'_>]) -> Result<ArrayVec<Share, MOST_PAIRS>, Reader
     requires { length words.now ≤ most_pairs }
     ensures { given_by listed (reader_answer result) ≡ shares_of (map view words.now) }
 {
+    // room for the pairs of a line of the most words, and for no more
+    prove!(MOST_PAIRS == MOST_WORDS - 4);
     let mut shares = ArrayVec::new();
     for word in words {
         shares.push(word.share()?);
@@ -161,6 +165,11 @@ pub fn read_line(line: &[u8]) -> Result<Option<Request>, ReaderFault>
     ensures value { given_by (option_map asked) (reader_answer result) ≡ read_line line.now }
     ensures answers { Answers line.now (given_by (option_map asked) (reader_answer result)) }
 {
-    let words = split_words(line).ok_or(UNKNOWN_PATTERN)?;
+    // a list of words costs as much to make for an empty line as for any
+    if line.is_empty() {
+        return Ok(None);
+    }
+    let mut words = ArrayVec::new();
+    split_words(line, &mut words).ok_or(UNKNOWN_PATTERN)?;
     read_words(words.as_slice())
 }

@@ -1,5 +1,5 @@
 //! The words of a line, and what each says.
-ghost use Rattle.std.specs.Prelude.{◌≡◌, ◌<◌, ◌≤◌, map, length, IfSome, MatchOption};
+ghost use Rattle.std.specs.Prelude.{◌≡◌, ◌<◌, [], map, length, MatchOption};
 ghost use Rattle.register.specs.Register.{reader_answer};
 ghost use Rattle.register.specs.declared.cause.ReaderCause.TheVariants.{UnreadableWord};
 ghost use Rattle.reader.specs.Kinds.{kind_of, view, words_in};
@@ -9,6 +9,7 @@ ghost use Rattle.reader.specs.Words.{words_of};
 
 use crate::number::{ShortNumber, code, number, pair, signed};
 use crate::request::MOST_WORDS;
+use crate::split::{count_before, count_leading};
 use apportion::Share;
 use arrayvec::ArrayVec;
 use money::{Currency, Minor};
@@ -144,21 +145,31 @@ fn read_word(span: Span<'_>) -> Word<'_>
     }
 }
 
-/// The words of a line, if they are no more than a request can have.
-pub(crate) fn split_words(line: &[u8]) -> Option<ArrayVec<Word<'_>, MOST_WORDS>>
-    ensures words { MatchOption result (most_words < length (words_of line.now)) (λ words. map view words.items ≡ words_in line.now) }
-    ensures few { IfSome result (λ words. length words.items ≤ most_words) }
+/// Puts the words of a line into an empty list; `None` if the line has more than a request can have. The list is the
+/// caller's, since to hand back one of that size costs more than to fill it.
+pub(crate) fn split_words<'a>(
+    line: &'a [u8],
+    words: &mut ArrayVec<Word<'a>, MOST_WORDS>,
+) -> Option<()>
+    requires { words.old.items ≡ [] }
+    ensures { MatchOption result (most_words < length (words_of line.now)) (λ _. map view words.new.items ≡ words_in line.now) }
 {
-    let mut words = ArrayVec::new();
+    let mut rest = line;
     let mut column = 1;
-    for text in line.split(|b| *b == b' ') {
-        if !text.is_empty() {
-            if words.is_full() {
-                return None;
-            }
-            words.push(read_word(Span { column, text }));
+    loop {
+        let gap = count_leading(rest, b' ');
+        let from = &rest[gap..];
+        let len = count_before(from, b' ');
+        if len == 0 {
+            return Some(());
         }
-        column += text.len() + 1;
+        if words.is_full() {
+            return None;
+        }
+        let text = &from[..len];
+        column += gap;
+        words.push(read_word(Span { column, text }));
+        column += len;
+        rest = &from[len..];
     }
-    Some(words)
 }

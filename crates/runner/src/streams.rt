@@ -14,7 +14,7 @@ use apportion::TieRule;
 use book::Book;
 use ledger::Ledger;
 use std::alloc::Global;
-use std::io::{self, Read, Write};
+use std::io::{self, ErrorKind, Read, Write};
 
 /// Reads an input, carries out its lines on a book, and writes the transcript. Whatever fails, a read, memory or a write,
 /// some first lines of the input are done, and the law holds of them.
@@ -34,6 +34,9 @@ pub fn run_streams<L: Ledger, R: TieRule, I: Read + Drop, O: Write>(
     // one byte more than is taken shows that an input is too long
     input.take(MOST_INPUT as u64 + 1).read_to_end(&mut bytes)?;
     let mut transcript = String::new(alloc);
-    run(book, rule, &bytes, &mut transcript)?;
-    output.write_all(transcript.as_bytes())
+    match run(book, rule, &bytes, &mut transcript) {
+        Ok(()) => output.write_all(transcript.as_bytes()),
+        // by `?` the error would read `out of memory`, as a read's does; this has the words of `AllocError`
+        Err(_) => Err(io::Error::new(ErrorKind::OutOfMemory, "memory allocation failed")),
+    }
 }
